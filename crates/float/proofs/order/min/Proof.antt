@@ -1,0 +1,20 @@
+-- `float::order::min` meets its contract. A number that differs from itself is NaN. Assumes nothing.
+use Rattle.float.specs.Order.{lesser}
+use Rattle.float.proofs.Signs.{nan-test}
+use Rattle.float.proofs.order.min.Statement.{statement}
+use Rattle.float.proofs.order.min.Tie as tie
+
+returns : tie.Need-returns
+unfolding lesser
+returns c = rw (← nan-test (c .before .args .a), c .if1 .taken)
+
+returns-2 : tie.Need-returns-2
+unfolding lesser
+returns-2 c = rw (← nan-test (c .before .before .args .a), c .before .if1 .left, c .if2 .taken)
+
+returns-3 : tie.Need-returns-3
+unfolding lesser
+returns-3 c = rw (← nan-test (c .before .before .args .a), c .before .if1 .left, c .if2 .left)
+
+pub min-spec : {M : Type 1} → statement M
+min-spec = tie.close (tie.spec returns returns-2 returns-3)
