@@ -1,0 +1,22 @@
+// Vectors of three floats by value, vectors of a flat slice, and the tangent frame.
+//
+// Every public function is total: a vector that lies outside a slice reads as NaN and is not stored.
+mod arithmetic;
+mod flat;
+mod tangent;
+
+pub use flat::at;
+pub use flat::put;
+pub use tangent::frame;
+
+pub struct Vec3 {
+    pub x: f32,
+    pub y: f32,
+    pub z: f32,
+}
+
+// Two directions that stand square to a normal and to each other.
+pub struct Tangents {
+    pub t: Vec3,
+    pub b: Vec3,
+}
