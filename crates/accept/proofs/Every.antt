@@ -1,0 +1,43 @@
+-- Several tests as one: one test more at a time, and what each says where all held.
+use mathlib.Core.Bool.{Bool, true, _&&_, and-eq-true-iff}
+use mathlib.Core.List.{List, [], _∷_}
+use mathlib.Core.Logic.{⊎-elim}
+use mathlib.Core.Path.{_≡_, refl}
+use Prim.Native.Nat.{ℕ, zero, suc, _+_, _<_}
+use native.Mathlib.Nat.{eq-or-lt-of-le}
+use native.Mathlib.Numerals.{add-one}
+use native.Mathlib.Omega.{arith}
+use Rattle.accept.specs.Every.{every, conj, conjFrom}
+
+-- a loop that makes the tests starts with true, and puts one test more to those made
+pub every-none : (f : ℕ → Bool) → true ≡ every f 0
+unfolding every
+every-none f = refl
+
+pub every-more : (f : ℕ → Bool) (i : ℕ) {ok t : Bool} → ok ≡ every f i → t ≡ f i → (ok && t) ≡ every f (i + 1)
+unfolding every
+every-more f i p q = rw (p, q, add-one i)
+
+-- each of the n tests held
+pub every-at : (f : ℕ → Bool) (n : ℕ) → every f n ≡ true → (i : ℕ) → i < n → f i ≡ true
+unfolding every
+every-at f zero e i h = absurd (omega arith)
+every-at f (suc n) e i h =
+    let both = and-eq-true-iff (every f n) (f n) .0 e in
+    ⊎-elim (λ q. rw q (both .1)) (λ k. every-at f n (both .0) i k) (eq-or-lt-of-le {n = i} {m = n} (omega arith))
+
+-- each test of a list held
+abbrev pub Each : List Bool → Type 0
+Each [] = Unit
+Each (a ∷ l) = (a ≡ true) × Each l
+
+conj-from : (a : Bool) (l : List Bool) → conjFrom a l ≡ true → Each (a ∷ l)
+conj-from a [] e = (e, tt)
+conj-from a (b ∷ l) e =
+    let h = conj-from (a && b) l e in
+    let both = and-eq-true-iff a b .0 (h .0) in
+    (both .0, (both .1, h .1))
+
+pub conj-each : (l : List Bool) → conj l ≡ true → Each l
+conj-each [] e = tt
+conj-each (a ∷ l) e = conj-from a l e

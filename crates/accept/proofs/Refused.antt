@@ -1,0 +1,41 @@
+-- What the number of the first test that failed says of the tests.
+use mathlib.Core.Bool.{Bool, true, false}
+use mathlib.Core.List.{List, [], _∷_, _++_}
+use mathlib.Core.Path.{_≡_, refl}
+use Prim.Native.Nat.{ℕ, zero, suc}
+use native.Mathlib.Omega.{arith}
+use Rattle.accept.specs.Refusal.{unless, firstFailed}
+
+-- Nested calls of `unless`, from the innermost outward: after the last test stands 0, and each call puts one test in front.
+pub first-failed-none : 0 ≡ firstFailed []
+unfolding firstFailed
+first-failed-none = refl
+
+pub first-failed-more : (number : ℕ) (l : List (ℕ × Bool)) {t passed : Bool} {rest r : ℕ}
+    → t ≡ passed → rest ≡ firstFailed l → r ≡ unless t number rest → r ≡ firstFailed ((number, passed) ∷ l)
+unfolding firstFailed
+first-failed-more number l p q e = rw (e, p, q)
+
+-- no test has the number 0, which says that all passed
+abbrev pub Numbered : List (ℕ × Bool) → Type 0
+Numbered [] = Unit
+Numbered ((zero, passed) ∷ l) = ⊥
+Numbered ((suc k, passed) ∷ l) = Numbered l
+
+-- each test passed
+abbrev pub Passed : List (ℕ × Bool) → Type 0
+Passed [] = Unit
+Passed ((number, passed) ∷ l) = (passed ≡ true) × Passed l
+
+pub none-failed : (l : List (ℕ × Bool)) → Numbered l → firstFailed l ≡ 0 → Passed l
+unfolding firstFailed
+none-failed [] w e = tt
+none-failed ((zero, passed) ∷ l) w e = absurd w
+none-failed ((suc k, true) ∷ l) w e = (refl, none-failed l w e)
+none-failed ((suc k, false) ∷ l) w e = absurd (omega arith)
+
+-- where the tests before it passed, a test that failed gives its number
+pub first-failed-at : (l m : List (ℕ × Bool)) (number : ℕ) → Passed l → firstFailed (l ++ ((number, false) ∷ m)) ≡ number
+unfolding firstFailed
+first-failed-at [] m number p = refl
+first-failed-at ((k, passed) ∷ l) m number p = rw (p .0) (first-failed-at l m number (p .1))

@@ -1,0 +1,28 @@
+-- Document 01, 'Refused calls', 3 and 5: floats in their range.
+use mathlib.Core.Bool.{Bool, _&&_}
+use mathlib.Core.List.{List, [], _∷_}
+use Prim.Native.Nat.{ℕ, _*_}
+use lib.ListN.{length, getD}
+use lib.Ieee.{Float, nan, le, neg}
+use Rattle.accept.specs.Every.{every, conj}
+use Rattle.accept.specs.Tables.{holds}
+
+-- x is from lo to hi, both included; a NaN is not
+abbrev pub within : Float → Float → Float → Bool
+within x lo hi = le lo x && le x hi
+
+-- each of the first n floats is from lo to hi
+unfoldable pub allWithin : (ℕ → Float) → ℕ → Float → Float → Bool
+allWithin f n lo hi = every (λ k. within (f k) lo hi) n
+
+-- float k of a list
+abbrev pub floatAt : List Float → ℕ → Float
+floatAt l k = getD l k nan
+
+-- a list holds n entries of `each` floats, all of them from lo to hi
+abbrev pub floatsWithin : List Float → ℕ → ℕ → Float → Float → Bool
+floatsWithin l n each lo hi = holds (length l) n each && allWithin (floatAt l) (n * each) lo hi
+
+-- one axis of bounds: lo and hi are at most limit in size, and lo is not above hi
+abbrev pub axis : Float → Float → Float → Bool
+axis lo hi limit = conj (within lo (neg limit) limit ∷ within hi (neg limit) limit ∷ le lo hi ∷ [])
