@@ -1,3 +1,4 @@
+-- What the proofs of several functions use, and the laws that other crates cite.
 pub mod Spelling
 pub mod Stores
 pub mod Words

@@ -11,6 +11,7 @@ use Rattle.vector.specs.Vector.{vec}
 abbrev pub vecAt : List Float → ℕ → Vec3
 vecAt l i = vec (getD l (3 * i) nan) (getD l (3 * i + 1) nan) (getD l (3 * i + 2) nan)
 
+-- a vector's three floats
 abbrev pub parts : Vec3 → List Float
 parts v = v .x ∷ v .y ∷ v .z ∷ []
 

@@ -34,6 +34,7 @@ impl Vec3 {
         }
     }
 
+    // The sum, component by component.
     pub fn plus(self, o: Vec3) -> Vec3
         ensures { λ r. ⌜ r ≡ plus self o ⌝ }
     {
@@ -44,6 +45,7 @@ impl Vec3 {
         }
     }
 
+    // The difference, component by component.
     pub fn minus(self, o: Vec3) -> Vec3
         ensures { λ r. ⌜ r ≡ minus self o ⌝ }
     {
@@ -138,6 +140,7 @@ impl Vec3 {
         self.dot(self)
     }
 
+    // The root of the dot product with itself.
     pub fn length(self) -> f32
         ensures { λ r. ⌜ r ≡ lengthOf self ⌝ }
     {

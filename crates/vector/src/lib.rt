@@ -9,6 +9,7 @@ pub use flat::at;
 pub use flat::put;
 pub use tangent::frame;
 
+// Three floats: a point, a direction, or light in three channels.
 pub struct Vec3 {
     pub x: f32,
     pub y: f32,
