@@ -1,4 +1,4 @@
--- What a check of lengths, ranges or bounds that passed says of a slice and its entries.
+-- What a check of lengths, ranges or bounds that passed says of a slice and its entries. Assumes nothing.
 use mathlib.Core.Bool.{Bool, true, false, and-eq-true-iff}
 use mathlib.Core.List.{List, [], _∷_}
 use mathlib.Core.Path.{_≡_, refl, sym}
@@ -10,9 +10,16 @@ use lib.Ieee.{Float, nan, inf, fin, le, lt, eq, neg}
 use lib.IntN.{ℤ}
 use lib.ListN.{length}
 use borrow.Author.Tests.{leb-true, leb-false, ltb-true, le-leb}
-use Rattle.accept.specs.Tables.{holds, allBelow, numberAt, numbersBelow}
-use Rattle.accept.specs.Ranges.{within, allWithin, floatAt, floatsWithin, axis}
+use Rattle.accept.specs.Tables.{atMost, holds, allBelow, numberAt, numbersBelow}
+use Rattle.float.specs.Column.{floatAt}
+use Rattle.vector.specs.declared.Vec3.{Vec3}
+use Rattle.accept.specs.Limits.{maxCoordinate}
+use Rattle.accept.specs.Ranges.{within, allWithin, floatsWithin, axis, coordinate, point, bounds}
 use Rattle.accept.proofs.Every.{every-at, conj-each}
+
+-- a count that was checked is within its limit
+pub at-most-le : (n limit : ℕ) → atMost n limit ≡ true → n ≤ limit
+at-most-le n limit e = leb-true n limit e
 
 -- a slice that holds n entries has their places
 pub holds-le : (len n each : ℕ) → holds len n each ≡ true → n * each ≤ len
@@ -69,6 +76,16 @@ pub axis-at : (lo hi limit : Float) → axis lo hi limit ≡ true
     → (within lo (neg limit) limit ≡ true) × (within hi (neg limit) limit ≡ true) × (le lo hi ≡ true)
 axis-at lo hi limit e =
     let h = conj-each (within lo (neg limit) limit ∷ within hi (neg limit) limit ∷ le lo hi ∷ []) e in
+    (h .0, h .1 .0, h .1 .1 .0)
+
+-- a point that was checked has three coordinates, and bounds that were checked three axes
+pub point-at : (p : Vec3) → point p ≡ true → (coordinate (p .x) ≡ true) × (coordinate (p .y) ≡ true) × (coordinate (p .z) ≡ true)
+point-at p e = let h = conj-each (coordinate (p .x) ∷ coordinate (p .y) ∷ coordinate (p .z) ∷ []) e in (h .0, h .1 .0, h .1 .1 .0)
+
+pub bounds-at : (lo hi : Vec3) → bounds lo hi ≡ true
+    → (axis (lo .x) (hi .x) maxCoordinate ≡ true) × (axis (lo .y) (hi .y) maxCoordinate ≡ true) × (axis (lo .z) (hi .z) maxCoordinate ≡ true)
+bounds-at lo hi e =
+    let h = conj-each (axis (lo .x) (hi .x) maxCoordinate ∷ axis (lo .y) (hi .y) maxCoordinate ∷ axis (lo .z) (hi .z) maxCoordinate ∷ []) e in
     (h .0, h .1 .0, h .1 .1 .0)
 
 -- each of the first n numbers is below the bound

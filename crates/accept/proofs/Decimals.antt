@@ -1,18 +1,25 @@
--- Each float limit is the float nearest its decimal.
+-- Each float limit is the float nearest its decimal. Assumes nothing.
 use mathlib.Core.Bool.{false}
 use mathlib.Core.List.{[], _∷_}
 use mathlib.Core.Path.{_≡_, refl}
 use Prim.Native.Nat.{ℕ}
 use lib.Ieee.{Float, binary32, ofBits, ofFields, round, units, odd, span, climb, size}
-use Rattle.accept.specs.Limits.{maxCoordinate, maxLength, maxAlbedo, maxAmount, maxClusterArea, maxWeight, minCell, maxCell, maxRadius}
+use Rattle.accept.specs.Limits.{floatLimits}
 
 -- the float nearest p / q
 abbrev nearest : ℕ → ℕ → Float
 nearest p q = round binary32 false p q
 
-pub limits-nearest :
-    (maxCoordinate ∷ maxLength ∷ maxAlbedo ∷ maxAmount ∷ maxClusterArea ∷ maxWeight ∷ minCell ∷ maxCell ∷ maxRadius ∷ [])
-    ≡ (nearest 10000 1 ∷ nearest 10000 1 ∷ nearest 1 1 ∷ nearest 1000000 1 ∷ nearest 1000000000000 1
-    ∷ nearest 2 1 ∷ nearest 1 10000 ∷ nearest 10000 1 ∷ nearest 10000 1 ∷ [])
+pub limits-nearest : floatLimits
+    ≡ nearest 10000 1
+    ∷ nearest 10000 1
+    ∷ nearest 1 1
+    ∷ nearest 1000000 1
+    ∷ nearest 1000000000000 1
+    ∷ nearest 2 1
+    ∷ nearest 1 10000
+    ∷ nearest 10000 1
+    ∷ nearest 10000 1
+    ∷ []
 unfolding ofBits ofFields round units odd span climb size
 limits-nearest = refl

@@ -1,4 +1,4 @@
--- Several tests as one: one test more at a time, and what each says where all held.
+-- Several tests as one: one test more at a time, and what each says where all held. Assumes nothing.
 use mathlib.Core.Bool.{Bool, true, _&&_, and-eq-true-iff}
 use mathlib.Core.List.{List, [], _∷_}
 use mathlib.Core.Logic.{⊎-elim}

@@ -1,4 +1,4 @@
--- What ranges that are contiguous say of their numbers.
+-- What ranges that are contiguous say of their numbers. Assumes nothing.
 use mathlib.Core.Bool.{true, and-eq-true-iff}
 use mathlib.Core.List.{List, [], _∷_}
 use mathlib.Core.Path.{_≡_, _∙_}
@@ -11,7 +11,7 @@ use borrow.Author.Tests.{leb-true, eqb-true}
 use Rattle.accept.specs.Every.{every}
 use Rattle.accept.specs.Tables.{edge, contiguous, numberAt, rangesContiguous}
 use Rattle.accept.proofs.Every.{every-at, conj-each}
-use Rattle.accept.proofs.Climbing.{not-falling}
+use Rattle.accept.proofs.Starts.{not-falling}
 
 -- where range c ended
 pub edge-more : (firsts counts : ℕ → ℕ) (c : ℕ) {x y : ℕ} → x ≡ firsts c → y ≡ counts c → x + y ≡ edge firsts counts (c + 1)

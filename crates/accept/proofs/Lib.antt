@@ -1,7 +1,7 @@
 -- The laws of the checks, for the proofs here and for callers.
 pub mod Every
 pub mod Bounded
-pub mod Climbing
+pub mod Starts
 pub mod Joined
 pub mod Refused
 pub mod Decimals

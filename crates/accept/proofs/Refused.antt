@@ -1,4 +1,4 @@
--- What the number of the first test that failed says of the tests.
+-- What the number of the first test that failed says of the tests. Assumes nothing.
 use mathlib.Core.Bool.{Bool, true, false}
 use mathlib.Core.List.{List, [], _∷_, _++_}
 use mathlib.Core.Path.{_≡_, refl}

@@ -1,4 +1,5 @@
--- Document 01, 'Refused calls': the limits of 2 and 5, and of cell and radius in 3. A float is given by its bits, the one nearest the decimal.
+-- Document 01, 'Refused calls': the limits of 1, 2, 3 and 5. A float is given by its bits, the one nearest the decimal.
+use mathlib.Core.List.{List, [], _∷_}
 use Prim.Native.Nat.{ℕ}
 use lib.Ieee.{Float, binary32, ofBits}
 
@@ -21,6 +22,27 @@ maxBounces = 4096
 -- links: 16,777,216
 abbrev pub maxLinks : ℕ
 maxLinks = 16777216
+
+-- cluster resolution: 1 to 64
+abbrev pub minResolution : ℕ
+minResolution = 1
+
+abbrev pub maxResolution : ℕ
+maxResolution = 64
+
+-- reach: 0 to 511
+abbrev pub maxReach : ℕ
+maxReach = 511
+
+-- bytes of a room file: 64 to 268,435,456, in `roomlight` to 65,536
+abbrev pub minFile : ℕ
+minFile = 64
+
+abbrev pub maxFile : ℕ
+maxFile = 268435456
+
+abbrev pub maxProgramFile : ℕ
+maxProgramFile = 65536
 
 -- coordinates, normals, plane heights and bounds, either way from zero: 10,000
 abbrev pub maxCoordinate : Float
@@ -56,3 +78,23 @@ maxCell = ofBits binary32 0x461c_4000
 -- radius of a reading: 10,000
 abbrev pub maxRadius : Float
 maxRadius = ofBits binary32 0x461c_4000
+
+-- the limits of counts, and of floats, in the order in which they stand here
+abbrev pub countLimits : List ℕ
+countLimits =
+    maxSurfels
+    ∷ maxClusters
+    ∷ maxEntries
+    ∷ maxBounces
+    ∷ maxLinks
+    ∷ minResolution
+    ∷ maxResolution
+    ∷ maxReach
+    ∷ minFile
+    ∷ maxFile
+    ∷ maxProgramFile
+    ∷ []
+
+abbrev pub floatLimits : List Float
+floatLimits =
+    maxCoordinate ∷ maxLength ∷ maxAlbedo ∷ maxAmount ∷ maxClusterArea ∷ maxWeight ∷ minCell ∷ maxCell ∷ maxRadius ∷ []

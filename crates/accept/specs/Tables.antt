@@ -6,6 +6,10 @@ use lib.Dec.{leb, ltb, eqb}
 use lib.ListN.{length, getD}
 use Rattle.accept.specs.Every.{every, conj}
 
+-- a count within its limit
+abbrev pub atMost : ℕ → ℕ → Bool
+atMost n limit = leb n limit
+
 -- a slice of length len holds n entries of `each` places
 unfoldable pub holds : ℕ → ℕ → ℕ → Bool
 holds len n each = leb (n * each) len
@@ -15,8 +19,8 @@ unfoldable pub allBelow : (ℕ → ℕ) → ℕ → ℕ → Bool
 allBelow f n bound = every (λ k. ltb (f k) bound) n
 
 -- starts 0 to n begin at 0, never fall and end at `end`
-unfoldable pub climbs : (ℕ → ℕ) → ℕ → ℕ → Bool
-climbs starts n end = conj (eqb (starts 0) 0 ∷ every (λ i. leb (starts i) (starts (i + 1))) n ∷ eqb (starts n) end ∷ [])
+unfoldable pub monotone : (ℕ → ℕ) → ℕ → ℕ → Bool
+monotone starts n end = conj (eqb (starts 0) 0 ∷ every (λ i. leb (starts i) (starts (i + 1))) n ∷ eqb (starts n) end ∷ [])
 
 -- the numbers from place a up to place b strictly ascend
 unfoldable pub ascends : (ℕ → ℕ) → ℕ → ℕ → Bool
@@ -43,14 +47,14 @@ numberAt l k = getD l k 0
 abbrev pub numbersBelow : List ℕ → ℕ → ℕ → Bool
 numbersBelow l n bound = leb n (length l) && allBelow (numberAt l) n bound
 
--- a list has n + 1 starts or more, the first n + 1 climbing to `end`
-abbrev pub startsClimb : List ℕ → ℕ → ℕ → Bool
-startsClimb starts n end = ltb n (length starts) && climbs (numberAt starts) n end
+-- a list has n + 1 starts or more, the first n + 1 is-monotone to `end`
+abbrev pub startsMonotone : List ℕ → ℕ → ℕ → Bool
+startsMonotone starts n end = ltb n (length starts) && monotone (numberAt starts) n end
 
--- the starts of n rows climb to count, the list of links has so many, and the links of each row strictly ascend
+-- the starts of n rows rise from 0 to count, the list of links has so many, and the links of each row strictly ascend
 abbrev pub linksAscend : List ℕ → ℕ → List ℕ → ℕ → Bool
 linksAscend starts n links count =
-    conj (startsClimb starts n count ∷ leb count (length links) ∷ allAscend (numberAt starts) (numberAt links) n ∷ [])
+    conj (startsMonotone starts n count ∷ leb count (length links) ∷ allAscend (numberAt starts) (numberAt links) n ∷ [])
 
 -- the lists have n ranges or more, the first n contiguous from 0 to `end`
 abbrev pub rangesContiguous : List ℕ → List ℕ → ℕ → ℕ → Bool

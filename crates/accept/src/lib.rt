@@ -6,11 +6,15 @@ mod refusal;
 mod tables;
 
 pub use ranges::axis;
+pub use ranges::bounds;
+pub use ranges::coordinate;
 pub use ranges::floats_within;
+pub use ranges::point;
 pub use ranges::within;
 pub use refusal::unless;
+pub use tables::at_most;
 pub use tables::holds;
 pub use tables::links_ascend;
 pub use tables::numbers_below;
 pub use tables::ranges_contiguous;
-pub use tables::starts_climb;
+pub use tables::starts_monotone;

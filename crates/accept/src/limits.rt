@@ -1,9 +1,6 @@
-// The limits of refusals 2 and 5, and of cell and radius in 3.
+// The limits of refusals 1, 2, 3 and 5.
 ghost use mathlib.Core.Path.{_≡_};
-ghost use mathlib.Core.List.{[], _∷_};
-ghost use Rattle.accept.specs.Limits.{maxSurfels, maxClusters, maxEntries, maxBounces, maxLinks};
-ghost use Rattle.accept.specs.Limits.{maxCoordinate, maxLength, maxAlbedo, maxAmount};
-ghost use Rattle.accept.specs.Limits.{maxClusterArea, maxWeight, minCell, maxCell, maxRadius};
+ghost use Rattle.accept.specs.Limits.{countLimits, floatLimits};
 
 // Surfels, members, points or target.
 pub const MAX_SURFELS: usize = 400_000;
@@ -19,6 +16,21 @@ pub const MAX_BOUNCES: usize = 4_096;
 
 // Links.
 pub const MAX_LINKS: usize = 16_777_216;
+
+// Cluster resolution, from the first to the second.
+pub const MIN_RESOLUTION: usize = 1;
+
+pub const MAX_RESOLUTION: usize = 64;
+
+// Reach.
+pub const MAX_REACH: usize = 511;
+
+// Bytes of a room file, from the first to the second, and the most that `roomlight` takes.
+pub const MIN_FILE: usize = 64;
+
+pub const MAX_FILE: usize = 268_435_456;
+
+pub const MAX_PROGRAM_FILE: usize = 65_536;
 
 // Coordinates, normals, plane heights and bounds, either way from zero.
 pub const MAX_COORDINATE: f32 = 10_000.0;
@@ -47,8 +59,8 @@ pub const MAX_CELL: f32 = 10_000.0;
 pub const MAX_RADIUS: f32 = 10_000.0;
 
 // The limits of counts. Nothing calls it: it holds the constants to their definitions.
-fn count_limits() -> [usize; 5]
-    ensures { λ r. ⌜ r ≡ maxSurfels ∷ maxClusters ∷ maxEntries ∷ maxBounces ∷ maxLinks ∷ [] ⌝ }
+fn count_limits() -> [usize; 11]
+    ensures { λ r. ⌜ r ≡ countLimits ⌝ }
 {
     [
         MAX_SURFELS,
@@ -56,12 +68,18 @@ fn count_limits() -> [usize; 5]
         MAX_ENTRIES,
         MAX_BOUNCES,
         MAX_LINKS,
+        MIN_RESOLUTION,
+        MAX_RESOLUTION,
+        MAX_REACH,
+        MIN_FILE,
+        MAX_FILE,
+        MAX_PROGRAM_FILE,
     ]
 }
 
 // The limits of floats. Nothing calls it: it holds the constants to their definitions.
 fn float_limits() -> [f32; 9]
-    ensures { λ r. ⌜ r ≡ maxCoordinate ∷ maxLength ∷ maxAlbedo ∷ maxAmount ∷ maxClusterArea ∷ maxWeight ∷ minCell ∷ maxCell ∷ maxRadius ∷ [] ⌝ }
+    ensures { λ r. ⌜ r ≡ floatLimits ⌝ }
 {
     [
         MAX_COORDINATE,

@@ -1,9 +1,12 @@
 // Floats in their range.
+use crate::limits::MAX_COORDINATE;
 use crate::tables;
+use vector::Vec3;
 ghost use mathlib.Core.Path.{_≡_};
 ghost use Prim.Native.Nat.{_≤_};
 ghost use lib.ListN.{length};
-ghost use Rattle.accept.specs.Ranges.{within, allWithin, floatAt, floatsWithin, axis};
+ghost use Rattle.float.specs.Column.{floatAt};
+ghost use Rattle.accept.specs.Ranges.{within, allWithin, floatsWithin, axis, coordinate, point, bounds};
 
 // Whether x is from lo to hi, both included. A NaN never is, and an infinity only where an end of
 // the range is infinite.
@@ -43,4 +46,27 @@ pub fn axis(lo: f32, hi: f32, limit: f32) -> bool
     ensures { λ r. ⌜ r ≡ axis lo hi limit ⌝ }
 {
     within(lo, -limit, limit) & within(hi, -limit, limit) & (lo <= hi)
+}
+
+// Whether x serves as a coordinate: at most 10,000 in size.
+pub fn coordinate(x: f32) -> bool
+    ensures { λ r. ⌜ r ≡ coordinate x ⌝ }
+{
+    within(x, -MAX_COORDINATE, MAX_COORDINATE)
+}
+
+// Whether p serves as a point or a normal: three coordinates.
+pub fn point(p: Vec3) -> bool
+    ensures { λ r. ⌜ r ≡ point p ⌝ }
+{
+    coordinate(p.x) & coordinate(p.y) & coordinate(p.z)
+}
+
+// Whether lo and hi serve as bounds: on each axis at most 10,000 in size, lo not above hi.
+pub fn bounds(lo: Vec3, hi: Vec3) -> bool
+    ensures { λ r. ⌜ r ≡ bounds lo hi ⌝ }
+{
+    axis(lo.x, hi.x, MAX_COORDINATE)
+        & axis(lo.y, hi.y, MAX_COORDINATE)
+        & axis(lo.z, hi.z, MAX_COORDINATE)
 }

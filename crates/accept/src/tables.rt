@@ -3,8 +3,15 @@ ghost use mathlib.Core.Bool.{true};
 ghost use mathlib.Core.Path.{_≡_};
 ghost use Prim.Native.Nat.{_≤_, _<_};
 ghost use lib.ListN.{length};
-ghost use Rattle.accept.specs.Tables.{holds, allBelow, climbs, ascends, allAscend, contiguous};
-ghost use Rattle.accept.specs.Tables.{numberAt, numbersBelow, startsClimb, linksAscend, rangesContiguous};
+ghost use Rattle.accept.specs.Tables.{atMost, holds, allBelow, monotone, ascends, allAscend, contiguous};
+ghost use Rattle.accept.specs.Tables.{numberAt, numbersBelow, startsMonotone, linksAscend, rangesContiguous};
+
+// Whether a count is within its limit.
+pub fn at_most(n: usize, limit: usize) -> bool
+    ensures { λ r. ⌜ r ≡ atMost n limit ⌝ }
+{
+    n <= limit
+}
 
 // Whether a slice of length len holds n entries of `each` places, however large the numbers are.
 pub fn holds(len: usize, n: usize, each: usize) -> bool
@@ -26,22 +33,22 @@ pub fn numbers_below(s: &[u32], n: usize, bound: usize) -> bool
 
 // Whether starts has n + 1 places or more, and the first n + 1 begin at 0, never fall and end at
 // `end`.
-pub fn starts_climb(starts: &[u32], n: usize, end: usize) -> bool
-    ensures { λ r. ⌜ r ≡ startsClimb (now (starts .entry)) n end ⌝ }
+pub fn starts_monotone(starts: &[u32], n: usize, end: usize) -> bool
+    ensures { λ r. ⌜ r ≡ startsMonotone (now (starts .entry)) n end ⌝ }
 {
     if n < starts.len() {
-        climbs(starts, n, end)
+        monotone(starts, n, end)
     } else {
         false
     }
 }
 
-// Whether the starts of n rows climb from 0 to count, links has count places or more, and the links
+// Whether the starts of n rows rise from 0 to count, links has count places or more, and the links
 // of each row strictly ascend.
 pub fn links_ascend(starts: &[u32], n: usize, links: &[u32], count: usize) -> bool
     ensures { λ r. ⌜ r ≡ linksAscend (now (starts .entry)) n (now (links .entry)) count ⌝ }
 {
-    if starts_climb(starts, n, count) & (count <= links.len()) {
+    if starts_monotone(starts, n, count) & (count <= links.len()) {
         all_ascend(starts, n, links, count)
     } else {
         false
@@ -75,9 +82,9 @@ fn all_below(s: &[u32], n: usize, bound: usize) -> bool
 }
 
 // Whether starts 0 to n begin at 0, never fall and end at `end`.
-fn climbs(starts: &[u32], n: usize, end: usize) -> bool
+fn monotone(starts: &[u32], n: usize, end: usize) -> bool
     requires { ⌜ n < length (now starts) ⌝ }
-    ensures { λ r. ⌜ r ≡ climbs (numberAt (now (starts .entry))) n end ⌝ }
+    ensures { λ r. ⌜ r ≡ monotone (numberAt (now (starts .entry))) n end ⌝ }
 {
     let mut ok = true;
     let mut i = 0;
@@ -106,7 +113,7 @@ fn ascends(links: &[u32], a: usize, b: usize) -> bool
 // Whether the links of each of n rows strictly ascend.
 fn all_ascend(starts: &[u32], n: usize, links: &[u32], count: usize) -> bool
     requires { ⌜ n < length (now starts) ⌝ }
-    requires { ⌜ climbs (numberAt (now starts)) n count ≡ true ⌝ }
+    requires { ⌜ monotone (numberAt (now starts)) n count ≡ true ⌝ }
     requires { ⌜ count ≤ length (now links) ⌝ }
     ensures { λ r. ⌜ r ≡ allAscend (numberAt (now (starts .entry))) (numberAt (now (links .entry))) n ⌝ }
 {

@@ -2,20 +2,19 @@
 use mathlib.Core.Path.{_≡_, refl, sym, ap, _∙_, subst}
 use mathlib.Core.Logic.{_⊎_, inl, inr}
 use Prim.Native.Nat.{ℕ, zero, suc, _+_, _-_, _*_, _/_, _%_, _^_, _≤_, _<_}
-use native.Mathlib.Nat.{lt-irrefl, zero-mul, mul-pos, zero-lt-suc}
+use native.Mathlib.Nat.{mul-pos, zero-lt-suc}
 use native.Mathlib.Omega.{arith}
 use mathlib.Core.Bool.{Bool, true, false, not, cond, false≢true}
 use lib.Dec.{T, leb, ltb, eqb, le→leb, nltb→le}
 use lib.Pow.{pow-pos}
 use lib.Bits.{bitAnd, and-mask}
-use lib.Ieee.{Float, nan, inf, fin, binary32, up, odd, fits, isNan, ne, ofFields, ofBits, toBits}
+use lib.Ieee.{Float, nan, inf, fin, binary32, odd, fits, isNan, ne, ofFields, ofBits, toBits}
 use lib.Ieee.Bits.{is-true, ofBits-toBits, toBits-lt, nanBits-is, nanBits-above}
 use lib.Ieee.Exact.{HasValue, odd-sign}
-use lib.Ieee.Fits.{down-pos}
 use Rattle.float.specs.Root.{squareRoot}
 use Rattle.float.proofs.Numbers.{here-or-on}
 use Rattle.float.proofs.Nans.{differs}
-use Rattle.float.proofs.Patterns.{ofBits-is}
+use Rattle.float.proofs.Patterns.{ofBits-is, no-value}
 
 -- ---- NaN
 sqrt-nan : squareRoot nan ≡ nan
@@ -51,7 +50,7 @@ unfolding squareRoot
 negative-value nan a v p = absurd v
 negative-value (inf s) a v p = absurd v
 negative-value (fin false m e) a v p = absurd (false≢true (v .0))
-negative-value (fin true zero e) a v p = absurd (lt-irrefl 0 (subst (λ (x : ℕ). 0 < x) (sym (v .1) ∙ ap (λ (y : ℕ). y * 2 ^ 149) (zero-mul (up e)) ∙ zero-mul (2 ^ 149)) (mul-pos p (down-pos e))))
+negative-value (fin true zero e) a v p = absurd (no-value e a (v .1) p)
 negative-value (fin true (suc m) e) a v p = refl
 
 negative-odd : (q k : ℕ) → 0 < q → squareRoot (odd 24 true q k 149) ≡ nan

@@ -1,4 +1,4 @@
--- A float cut to a whole number, and rounded up to one. Assumes nothing.
+-- A float truncated to a whole number, and rounded up to one. Assumes nothing.
 use mathlib.Core.Path.{_≡_, refl, sym, _∙_, subst}
 use mathlib.Core.Bool.{true, false}
 use Prim.Native.Nat.{ℕ, zero, suc, _+_, _-_, _*_, _/_, _^_, _≤_, _<_, min}
@@ -12,17 +12,17 @@ use lib.Ieee.Compare.{nan-differs, differs-from-itself}
 use lib.Ieee.Exact.{HasValue, round-exact}
 use lib.Ieee.Fits.{down-pos}
 use borrow.Author.Tests.{ltb-true, ltb-false, lt-ltb}
-use Rattle.float.specs.Cells.{natural, cut, ceiling}
+use Rattle.float.specs.Cells.{natural, truncate, ceiling}
 use Rattle.float.proofs.Signs.{clash}
 
--- 1 and 2 ^ 31, the ends of what is cut by steps
+-- 1 and 2 ^ 31: between them the standard library's cast is used
 abbrev oneF : Float
 oneF = fin false 1 (pos 0)
 
 abbrev endF : Float
 endF = fin false 1 (pos 31)
 
--- ---- `cut`
+-- ---- `truncate`
 
 natural-neg : (k : ℕ) → natural (negℤ (pos k)) ≡ 0
 natural-neg zero = refl
@@ -33,66 +33,66 @@ unsigned : (m : ℕ) (e : ℤ) {A : Type 0} → lt (fin true m e) oneF ≡ false
 unfolding lt
 unsigned m e h = absurd (omega (arith, down-pos e, ltb-false 0 (m * up e * 1 + 1 * 1 * down e) h))
 
-pub cut-low : (x : Float) → lt x oneF ≡ true → 0 ≡ cut x
-unfolding lt toSigned cut
-cut-low nan h = refl
-cut-low (inf true) h = refl
-cut-low (inf false) h = clash (sym h)
-cut-low (fin true m e) h = sym (natural-neg (min (m * up e / down e) (2 ^ 31)))
-cut-low (fin false m e) h =
+pub truncate-low : (x : Float) → lt x oneF ≡ true → 0 ≡ truncate x
+unfolding lt toSigned truncate
+truncate-low nan h = refl
+truncate-low (inf true) h = refl
+truncate-low (inf false) h = clash (sym h)
+truncate-low (fin true m e) h = sym (natural-neg (min (m * up e / down e) (2 ^ 31)))
+truncate-low (fin false m e) h =
     let k : m * up e < 1 * down e = omega (arith, ltb-true (m * up e * 1) (1 * 1 * down e) h) in
     omega (arith, div-lt-iff-lt-mul (down-pos e) .1 k)
 
 -- between the two ends the cast to 64 bits is the cast to i32
-pub cut-mid : (x : Float) → lt x oneF ≡ false → lt x endF ≡ true → toUnsigned 64 x ≡ cut x
-unfolding lt toSigned toUnsigned cut
-cut-mid nan h g = clash (sym g)
-cut-mid (inf true) h g = clash h
-cut-mid (inf false) h g = clash (sym g)
-cut-mid (fin true m e) h g = unsigned m e h
-cut-mid (fin false m e) h g =
+pub truncate-mid : (x : Float) → lt x oneF ≡ false → lt x endF ≡ true → toUnsigned 64 x ≡ truncate x
+unfolding lt toSigned toUnsigned truncate
+truncate-mid nan h g = clash (sym g)
+truncate-mid (inf true) h g = clash h
+truncate-mid (inf false) h g = clash (sym g)
+truncate-mid (fin true m e) h g = unsigned m e h
+truncate-mid (fin false m e) h g =
     let k : m * up e < 2 ^ 31 * down e = omega (arith, ltb-true (m * up e * 1) (1 * 2 ^ 31 * down e) g) in
     omega (arith, div-lt-iff-lt-mul (down-pos e) .1 k)
 
 -- and what it asks of its operand holds
-pub cut-asks : (x : Float) → lt x oneF ≡ false → lt x endF ≡ true → T (lt (fin true 1 (pos 0)) x) × T (lt x (fin false 1 (pos 64)))
+pub truncate-asks : (x : Float) → lt x oneF ≡ false → lt x endF ≡ true → T (lt (fin true 1 (pos 0)) x) × T (lt x (fin false 1 (pos 64)))
 unfolding lt
-cut-asks nan h g = clash (sym g)
-cut-asks (inf true) h g = clash h
-cut-asks (inf false) h g = clash (sym g)
-cut-asks (fin true m e) h g = unsigned m e h
-cut-asks (fin false m e) h g = (
+truncate-asks nan h g = clash (sym g)
+truncate-asks (inf true) h g = clash h
+truncate-asks (inf false) h g = clash (sym g)
+truncate-asks (fin true m e) h g = unsigned m e h
+truncate-asks (fin false m e) h g = (
   subst T (sym (lt-ltb 0 (1 * 1 * down e + m * up e * 1) (omega (arith, down-pos e)))) tt,
   subst T (sym (lt-ltb (m * up e * 1) (1 * 2 ^ 64 * down e) (omega (arith, ltb-true (m * up e * 1) (1 * 2 ^ 31 * down e) g)))) tt,
 )
 
-pub cut-nan : (x : Float) → ne x x ≡ true → 0 ≡ cut x
-unfolding cut toSigned
-cut-nan x h = rw (differs-from-itself x (subst T (sym h) tt))
+pub truncate-nan : (x : Float) → ne x x ≡ true → 0 ≡ truncate x
+unfolding truncate toSigned
+truncate-nan x h = rw (differs-from-itself x (subst T (sym h) tt))
 
-pub cut-high : (x : Float) → lt x endF ≡ false → ne x x ≡ false → 2 ^ 31 - 1 ≡ cut x
-unfolding lt toSigned cut
-cut-high nan h g = clash (sym nan-differs ∙ g)
-cut-high (inf true) h g = clash h
-cut-high (inf false) h g = refl
-cut-high (fin true m e) h g = absurd (omega (arith, down-pos e, ltb-false 0 (m * up e * 1 + 1 * 2 ^ 31 * down e) h))
-cut-high (fin false m e) h g =
+pub truncate-high : (x : Float) → lt x endF ≡ false → ne x x ≡ false → 2 ^ 31 - 1 ≡ truncate x
+unfolding lt toSigned truncate
+truncate-high nan h g = clash (sym nan-differs ∙ g)
+truncate-high (inf true) h g = clash h
+truncate-high (inf false) h g = refl
+truncate-high (fin true m e) h g = absurd (omega (arith, down-pos e, ltb-false 0 (m * up e * 1 + 1 * 2 ^ 31 * down e) h))
+truncate-high (fin false m e) h g =
     let k : 2 ^ 31 * down e ≤ m * up e = omega (arith, ltb-false (m * up e * 1) (1 * 2 ^ 31 * down e) h) in
     omega (arith, le-div-iff-mul-le (down-pos e) .1 k)
 
 -- ---- `ceiling`
 
--- a quotient cut is no more than one rounded up
+-- a truncated quotient is no more than one rounded up
 quotients : (a d : ℕ) → 0 < d → a / d ≤ (a + (d - 1)) / d
 quotients a d p = le-div-iff-mul-le p .1 (let h : a / d * d ≤ a = le-div-iff-mul-le p .0 (omega arith) in omega arith)
 
-pub cut-le : (x : Float) → cut x ≤ ceiling x
-unfolding toSigned cut ceiling
-cut-le nan = omega arith
-cut-le (inf true) = omega arith
-cut-le (inf false) = omega arith
-cut-le (fin true m e) = omega (arith, natural-neg (min (m * up e / down e) (2 ^ 31)))
-cut-le (fin false m e) = omega (arith, quotients (m * up e) (down e) (down-pos e))
+pub truncate-le : (x : Float) → truncate x ≤ ceiling x
+unfolding toSigned truncate ceiling
+truncate-le nan = omega arith
+truncate-le (inf true) = omega arith
+truncate-le (inf false) = omega arith
+truncate-le (fin true m e) = omega (arith, natural-neg (min (m * up e / down e) (2 ^ 31)))
+truncate-le (fin false m e) = omega (arith, quotients (m * up e) (down e) (down-pos e))
 
 -- a whole number below 512 is a float as it stands
 value-of : (n : ℕ) → n < 512 → HasValue (ofInt binary32 (pos n)) false n 1
@@ -131,9 +131,9 @@ above-of (fin false a b) n m e v h =
     let k : m * up e * down b ≤ a * up b * down e = ltb-false _ _ h in
     le-of-mul-le-mul-right (rw (mul-right-comm n (down e) (down b), ← g) k) (down-pos b)
 
--- a whole number that x is cut to: below x, x is rounded up to the next
-pub ceiling-next : (x : Float) (t : ℕ) → t ≡ cut x → t < 512 → lt (ofInt binary32 (pos t)) x ≡ true → t + 1 ≡ ceiling x
-unfolding toSigned cut ceiling
+-- t is x truncated: where t is below x, x is rounded up to the next
+pub ceiling-next : (x : Float) (t : ℕ) → t ≡ truncate x → t < 512 → lt (ofInt binary32 (pos t)) x ≡ true → t + 1 ≡ ceiling x
+unfolding toSigned truncate ceiling
 ceiling-next nan t is h g = clash (sym g ∙ below-none (ofInt binary32 (pos t)) t (value-of t h) .0)
 ceiling-next (inf true) t is h g = clash (sym g ∙ below-none (ofInt binary32 (pos t)) t (value-of t h) .1)
 ceiling-next (inf false) t is h g = absurd (omega arith)
@@ -147,8 +147,8 @@ ceiling-next (fin false m e) t is h g =
     omega arith
 
 -- else x is that number, or no number above 0
-pub ceiling-same : (x : Float) (t : ℕ) → t ≡ cut x → t < 512 → lt (ofInt binary32 (pos t)) x ≡ false → t ≡ ceiling x
-unfolding toSigned cut ceiling
+pub ceiling-same : (x : Float) (t : ℕ) → t ≡ truncate x → t < 512 → lt (ofInt binary32 (pos t)) x ≡ false → t ≡ ceiling x
+unfolding toSigned truncate ceiling
 ceiling-same nan t is h g = is
 ceiling-same (inf true) t is h g = is
 ceiling-same (inf false) t is h g = absurd (omega arith)

@@ -14,9 +14,9 @@ use lib.Ieee.Digits.{size-lt, size-le, size-reaches}
 use lib.Ieee.Exact.{HasValue, units-val}
 use lib.Ieee.Fits.{and-l, and-r}
 use lib.Ieee.Positive.{positive, den, den-pos, value→cross, positive-of-value}
-use Rattle.float.specs.Root.{Root, squareRoot, wholeRoot, NearestRoot}
+use Rattle.float.specs.Root.{squareRoot, wholeRoot, NearestRoot}
 use Rattle.float.specs.RootSteps.{Scaled}
-use Rattle.float.proofs.Numbers.{root-lt, square-lt, sq-mul, pow-lt-cancel, pow-le-cancel, here-or-on}
+use Rattle.float.proofs.Numbers.{root-lt, rounds, square-lt, sq-mul, pow-lt-cancel, pow-le-cancel, here-or-on}
 use Rattle.float.proofs.Rounding.{wide-le}
 use Rattle.float.proofs.Roots.{whole-root-is, never, root-of}
 use Rattle.float.proofs.Patterns.{sqrt-of-value, four, X-ge, X-lt, split}
@@ -37,7 +37,7 @@ place m (negsuc a) h = (
     whole : suc a ≤ 149 → 149 ≡ 149 - suc a + suc a
     whole g = omega arith
 
-pub record Grid (x : Float) : Type 0 where
+pub record Units (x : Float) : Type 0 where
   m : ℕ
   j : ℕ
   some : 0 < m
@@ -45,13 +45,13 @@ pub record Grid (x : Float) : Type 0 where
   is : HasValue x false (m * 2 ^ j) U
   under : m * 2 ^ j < 2 ^ 277
 
-grid : (x : Float) → T (fits binary32 x) → T (positive x) → Grid x
+units-of : (x : Float) → T (fits binary32 x) → T (positive x) → Units x
 unfolding fits
-grid nan F p = absurd p
-grid (inf s) F p = absurd p
-grid (fin true m e) F p = absurd p
-grid (fin false zero e) F p = absurd (lt-irrefl 0 (ltb→lt 0 0 p))
-grid (fin false (suc m) e) F p =
+units-of nan F p = absurd p
+units-of (inf s) F p = absurd p
+units-of (fin true m e) F p = absurd p
+units-of (fin false zero e) F p = absurd (lt-irrefl 0 (ltb→lt 0 0 p))
+units-of (fin false (suc m) e) F p =
     let a : Bool = eqb (suc m % 2) 1 in
     let b : Bool = ltb (suc m) (2 ^ 24) in
     let c : Bool = leb (down e) U in
@@ -67,16 +67,7 @@ grid (fin false (suc m) e) F p =
       under = lt-of-mul-lt-mul-right (down e) (lt-of-le-of-lt (le-of-eq (sym (at .1))) (lt-of-lt-of-le (mul-lt-mul-of-pos-right top (pow-pos 149)) (le-of-eq (mul-right-comm (2 ^ 128) (down e) U))));
     }
 
--- ---- the two whole numbers next to twice a root: none is odd
-rounds : (X h : ℕ) → Root (4 * X) h → ((2 * ((h + 1) / 2) - 1) * (2 * ((h + 1) / 2) - 1) ≤ 4 * X) × (4 * X < (2 * ((h + 1) / 2) + 1) * (2 * ((h + 1) / 2) + 1))
-rounds X h r = (le-trans (mul-le-mul under under) (r .0), lt-of-lt-of-le (r .1) (mul-le-mul over over))
-  where
-    under : 2 * ((h + 1) / 2) - 1 ≤ h
-    under = omega arith
-
-    over : h + 1 ≤ 2 * ((h + 1) / 2) + 1
-    over = omega arith
-
+-- ---- twice a root is no odd number
 strict : (X q : ℕ) → 0 < q → (2 * q - 1) * (2 * q - 1) ≤ 4 * X → (2 * q - 1) * (2 * q - 1) < 4 * X
 strict X q p h = lt-of-le-ne h (λ (e : (2 * q - 1) * (2 * q - 1) ≡ 4 * X). never (q - 1) X (sym e ∙ ap (λ (x : ℕ). x * x) odd))
   where
@@ -84,7 +75,7 @@ strict X q p h = lt-of-le-ne h (λ (e : (2 * q - 1) * (2 * q - 1) ≡ 4 * X). ne
     odd = omega arith
 
 -- ---- the root's significand and exponent
-module _ (x : Float) (g : Grid x) where
+module _ (x : Float) (g : Units x) where
   abbrev z : ℕ
   z = size (g .m)
 
@@ -143,7 +134,7 @@ module _ (x : Float) (g : Grid x) where
       exps = let a = z-le in omega arith
 
   near : ((2 * q - 1) * (2 * q - 1) ≤ 4 * X) × (4 * X < (2 * q + 1) * (2 * q + 1))
-  near = rounds X (wholeRoot (4 * X)) (whole-root-is (4 * X))
+  near = rounds (4 * X) (wholeRoot (4 * X)) (whole-root-is (4 * X))
 
   q-ge : 2 ^ 23 ≤ q
   q-ge = let h : 2 ^ 24 < 2 * q + 1 = root-lt (2 ^ 24) (2 * q + 1) (lt-of-le-of-lt least (near .1)) in omega arith
@@ -169,7 +160,7 @@ same-value y a b h i = eq-of-mul-eq-mul-right (den y) (den-pos y) a b (sym (valu
 
 multiple : (y : Float) (c k : ℕ) → T (fits binary32 y) → HasValue y false c U → 2 ^ 23 * 2 ^ k < c → (d : ℕ) × (c ≡ d * 2 ^ k)
 multiple y c k F h l =
-    let g : Grid y = grid y F (positive-of-value y c U h (lt-of-le-of-lt none l)) in
+    let g : Units y = units-of y F (positive-of-value y c U h (lt-of-le-of-lt none l)) in
     let e : c ≡ g .m * 2 ^ g .j = same-value y c (g .m * 2 ^ g .j) h (g .is) in
     let t : 23 + k < 24 + g .j = pow-lt-cancel (lt-of-le-of-lt (le-of-eq (pow-add 2 23 k)) (lt-of-lt-of-le l (le-trans (le-of-eq e) (le-of-lt (shl-lt 24 (g .j) (g .few)))))) in
     let f : g .j - k + k ≡ g .j = omega arith in
@@ -203,7 +194,7 @@ module _ (y : Float) (c k q : ℕ) (F : T (fits binary32 y)) (h : HasValue y fal
       less i g = omega arith
 
 -- ---- the theorem
-module _ (x : Float) (g : Grid x) (y : Float) (c : ℕ) (F : T (fits binary32 y)) (h : HasValue y false c U) where
+module _ (x : Float) (g : Units x) (y : Float) (c : ℕ) (F : T (fits binary32 y)) (h : HasValue y false c U) where
   abbrev Q : ℕ
   Q = q x g
 
@@ -250,7 +241,7 @@ module _ (x : Float) (g : Grid x) (y : Float) (c : ℕ) (F : T (fits binary32 y)
 
 pub nearest-root : (x : Float) → T (fits binary32 x) → T (positive x) → NearestRoot x (squareRoot x)
 nearest-root x F p =
-    let g = grid x F p in
+    let g = units-of x F p in
     record {
       n = g .m * 2 ^ g .j;
       a = q x g * 2 ^ k x g;

@@ -7,6 +7,7 @@ use mathlib.Core.Bool.{Bool, true, false, cond, true≢false}
 use lib.Dec.{T, leb, ltb, eqb, leb→le, lt→ltb, eqb→eq, not-T}
 use lib.Pow.{pow-pos, pow-mono, pow-add, shl-lt}
 use lib.Count.{trailingZeros, under}
+use lib.IntN.{ℤ}
 use lib.Ieee.{Float, nan, inf, fin, binary32, up, down, minus, odd, units, ofFields, ofBits}
 use lib.Ieee.Bits.{is-true, is-false, cond-no}
 use lib.Ieee.Exact.{HasValue, odd-sign}
@@ -59,12 +60,16 @@ normal b l u =
 
 -- ---- `squareRoot` sees only the value
 
+-- a zero has no value above 0
+pub no-value : (e : ℤ) (a : ℕ) → 0 * up e * 2 ^ 149 ≡ a * down e → 0 < a → ⊥
+no-value e a v p = lt-irrefl 0 (subst (λ (x : ℕ). 0 < x) (sym v ∙ ap (λ (y : ℕ). y * 2 ^ 149) (zero-mul (up e)) ∙ zero-mul (2 ^ 149)) (mul-pos p (down-pos e)))
+
 pub sqrt-of-value : (x : Float) (a : ℕ) → HasValue x false a (2 ^ 149) → 0 < a → squareRoot x ≡ rootOf a
 unfolding squareRoot
 sqrt-of-value nan a v p = absurd v
 sqrt-of-value (inf s) a v p = absurd v
 sqrt-of-value (fin true m e) a v p = absurd (true≢false (v .0))
-sqrt-of-value (fin false zero e) a v p = absurd (lt-irrefl 0 (subst (λ (x : ℕ). 0 < x) (sym (v .1) ∙ ap (λ (y : ℕ). y * 2 ^ 149) (zero-mul (up e)) ∙ zero-mul (2 ^ 149)) (mul-pos p (down-pos e))))
+sqrt-of-value (fin false zero e) a v p = absurd (no-value e a (v .1) p)
 sqrt-of-value (fin false (suc m) e) a v p = ap (λ (n : ℕ). rootOf n) (ap (λ (x : ℕ). x / down e) (v .1) ∙ mul-div-cancel a (down-pos e))
 
 pub sqrt-of-odd : (x : Float) (q k : ℕ) → x ≡ odd 24 false q k 149 → 0 < q → squareRoot x ≡ rootOf (q * 2 ^ k)

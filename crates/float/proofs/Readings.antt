@@ -1,4 +1,4 @@
--- What the definitions say, read back: how they treat NaN, that `ceiling` is the least whole number from x on, and worked examples of the root. Assumes nothing.
+-- What the definitions say, read back: how they treat NaN, that `ceiling` is the least whole number from x on, where cells lie, and worked examples of the root. Assumes nothing.
 use mathlib.Core.Path.{_≡_, refl}
 use mathlib.Core.List.{List, [], _∷_, map}
 use mathlib.Core.Bool.{false}
@@ -9,7 +9,7 @@ use lib.IntN.{ℤ}
 use lib.Ieee.{Float, nan, inf, fin, binary32, up, down, isNan, lt, ofBits, toBits}
 use lib.Ieee.Fits.{down-pos}
 use Rattle.float.specs.Order.{greater, lesser, clamp}
-use Rattle.float.specs.Cells.{ceiling}
+use Rattle.float.specs.Cells.{cell, ceiling, cellCount}
 use Rattle.float.specs.Root.{squareRoot}
 
 -- nothing is below NaN
@@ -44,6 +44,15 @@ least m e h =
     let first : (k : ℕ) → a ≤ k * d → c ≤ k = λ k g. let u : c < k + 1 = div-lt-iff-lt-mul p .1 (omega (arith, add-mul k 1 d)) in omega arith in
     let few = first (2 ^ 31 - 1) h in
     (rw (min-eq-left few) up-to, λ k g. rw (min-eq-left few) (first k g))
+
+-- a cell number is below the number of cells, and an extent takes 1 to 512 of them
+pub cell-below : (x : Float) (dim : ℕ) → 0 < dim → cell x dim < dim
+unfolding cell
+cell-below x dim h = omega arith
+
+pub count-range : (x : Float) → (1 ≤ cellCount x) × (cellCount x ≤ 512)
+unfolding cellCount
+count-range x = (omega arith, omega arith)
 
 -- patterns of an operand and of its root: 4, 2, the least subnormal, the largest number, 1, the two zeros, +∞, -1 and -∞ (NaN is written 7FC00000)
 abbrev pub roots : List (ℕ × ℕ)

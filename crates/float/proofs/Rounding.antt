@@ -1,18 +1,14 @@
 -- The arithmetic of `rounded`: the shifted significand, the bounds of its root, and the pattern that is packed. Assumes nothing.
 use mathlib.Core.Path.{_≡_, sym, ap, _∙_, subst}
 use Prim.Native.Nat.{ℕ, _+_, _-_, _*_, _/_, _%_, _^_, _≤_, _<_, zero-le}
-use native.Mathlib.Nat.{le-trans, le-of-eq, lt-of-le-of-lt, lt-of-lt-of-le, mul-le-mul, mod-eq-of-lt, mod-lt}
+use native.Mathlib.Nat.{le-trans, lt-of-le-of-lt, mul-le-mul, mod-eq-of-lt, mod-lt}
 use native.Mathlib.Omega.{arith}
 use lib.Dec.{lit<, lit≤}
 use lib.Pow.{pow-pos, pow-mono, shl-exact, high, low}
 use lib.Bits.{bitAnd, bitOr, and-mask, or-shifted}
 use Rattle.float.specs.Root.{Root}
 use Rattle.float.specs.RootSteps.{Between, Scaled, Rounded}
-use Rattle.float.proofs.Numbers.{root-lt}
-
--- what a mask of 23 bits leaves
-pub mask-lt : (q : ℕ) → bitAnd q (2 ^ 23 - 1) < 2 ^ 23
-mask-lt q = lt-of-le-of-lt (le-of-eq (and-mask q 23)) (mod-lt q (pow-pos 23))
+use Rattle.float.proofs.Numbers.{root-lt, rounds}
 
 module _ (sig e : ℕ) (pre : Scaled sig e) where
   -- the code's shift amount and shifted significand
@@ -65,13 +61,12 @@ module _ (sig e : ℕ) (pre : Scaled sig e) where
     q = (h + 1) / 2
 
     abbrev pattern : ℕ
-    pattern = bitOr ((e / 2 * 2 ^ 23) % 2 ^ 32) (bitAnd q (2 ^ 23 - 1))
+    pattern = bitOr ((e / 2 * 2 ^ 23) % 2 ^ 32) (q % 2 ^ 23)
 
     pattern-is : pattern ≡ e / 2 * 2 ^ 23 + q % 2 ^ 23
     pattern-is =
         let le = pre .3 in
-        ap (λ (x : ℕ). bitOr x (bitAnd q (2 ^ 23 - 1))) (mod-eq-of-lt {n = e / 2 * 2 ^ 23} {m = 2 ^ 32} (omega arith))
-        ∙ ap (λ (x : ℕ). bitOr (e / 2 * 2 ^ 23) x) (and-mask q 23)
+        ap (λ (x : ℕ). bitOr x (q % 2 ^ 23)) (mod-eq-of-lt {n = e / 2 * 2 ^ 23} {m = 2 ^ 32} (omega arith))
         ∙ or-shifted (e / 2) 23 (q % 2 ^ 23) (mod-lt q (pow-pos 23))
 
     digits : 2 ^ 23 + pattern % 2 ^ 23 ≡ q
@@ -83,12 +78,9 @@ module _ (sig e : ℕ) (pre : Scaled sig e) where
     pub rounded-is : Rounded sig e pattern
     rounded-is = record {
       field = ap (λ (x : ℕ). x / 2 ^ 23) pattern-is ∙ high (e / 2) 23 (mod-lt q (pow-pos 23));
-      above = subst (λ (x : ℕ). (2 * x - 1) * (2 * x - 1) ≤ W) (sym digits) (le-trans (mul-le-mul under under) lower);
-      below = subst (λ (x : ℕ). W < (2 * x + 1) * (2 * x + 1)) (sym digits) (lt-of-lt-of-le upper (mul-le-mul over over));
+      above = subst (λ (x : ℕ). (2 * x - 1) * (2 * x - 1) ≤ W) (sym digits) (near .0);
+      below = subst (λ (x : ℕ). W < (2 * x + 1) * (2 * x + 1)) (sym digits) (near .1);
     }
       where
-        under : 2 * q - 1 ≤ h
-        under = omega arith
-
-        over : h + 1 ≤ 2 * q + 1
-        over = omega arith
+        near : ((2 * q - 1) * (2 * q - 1) ≤ W) × (W < (2 * q + 1) * (2 * q + 1))
+        near = rounds W h (lower, upper)

@@ -11,13 +11,13 @@ natural (pos n) = n
 natural (negsuc n) = 0
 
 -- x cast to i32, or 0 where that is negative
-unfoldable pub cut : Float → ℕ
-cut x = natural (toSigned 31 x)
+unfoldable pub truncate : Float → ℕ
+truncate x = natural (toSigned 31 x)
 
 -- x cast to i32, clamped to 0 .. dim - 1
 unfoldable pub cell : Float → ℕ → ℕ
-unfolding cut
-cell x dim = min (cut x) (dim - 1)
+unfolding truncate
+cell x dim = min (truncate x) (dim - 1)
 
 -- the least whole number that is no less than x, cast to i32, or 0 where that is negative: of m * up e / down e the quotient rounded up
 unfoldable pub ceiling : Float → ℕ

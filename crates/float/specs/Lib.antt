@@ -1,5 +1,6 @@
 -- The definitions that the contracts of `float` cite.
 pub mod Arithmetic
+pub mod Column
 pub mod Sign
 pub mod Order
 pub mod Cells

@@ -1,7 +1,7 @@
 // The square root, rounded to the nearest float.
 use crate::sign;
 ghost use mathlib.Core.Path.{_≡_};
-ghost use Prim.Native.Nat.{_<_};
+ghost use Prim.Native.Nat.{_%_, _^_, _<_};
 ghost use lib.Ieee.{binary32, ofBits};
 ghost use lib.Ieee.Positive.{positive as Positive·positive};
 ghost use lib.Dec.{T};
@@ -52,7 +52,14 @@ fn rounded(sig: u32, e: u32) -> u32
 {
     let wide = (sig as u64) << (25 + (e & 1));
     let q = (whole_root(wide, 0, 25) + 1) >> 1;
-    ((e >> 1) << 23) | ((q & 0x7f_ffff) as u32)
+    ((e >> 1) << 23) | fraction(q)
+}
+
+// The 23 bits of a significand below its leading one.
+fn fraction(q: u64) -> u32
+    ensures { λ r. ⌜ r ≡ q % 2 ^ 23 ⌝ }
+{
+    (q & 0x7f_ffff) as u32
 }
 
 // The whole-number root of n, bit by bit: r has its upper bits, and `left` bits are left to find.

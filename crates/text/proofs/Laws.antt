@@ -1,7 +1,7 @@
 -- What is written is read back, nothing else is read as a word, and a number takes the fewest decimal digits. Assumes nothing.
 use Prim.Native.Nat.{ℕ, zero, suc, _+_, _*_, _-_, _/_, _%_, _^_, _≤_, _<_}
 use mathlib.Core.Path.{_≡_, refl, sym, ap, _∙_}
-use mathlib.Core.Bool.{Bool, true, false, cond, _&&_}
+use mathlib.Core.Bool.{Bool, true, false, cond, _&&_, and-eq-true-iff}
 use mathlib.Core.List.{List, [], _∷_, _++_, append-nil, append-assoc}
 use native.Mathlib.Omega.{arith}
 use native.Mathlib.Nat.{pow-suc, pow-succ', mul-assoc, mod-lt, div-one, div-div-eq-div-mul, sub-zero, suc-sub-suc}
@@ -49,12 +49,7 @@ read-back pre post w h =
 
 -- a test of both ends of a range that passes
 within : (a b c : ℕ) → (leb a b && leb b c) ≡ true → (a ≤ b) × (b ≤ c)
-within a b c e = by (leb a b) (leb b c) refl refl e
-  where
-    by : (p q : Bool) → leb a b ≡ p → leb b c ≡ q → (p && q) ≡ true → (a ≤ b) × (b ≤ c)
-    by true true f g _ = (leb-true a b f, leb-true b c g)
-    by true false f g e = let z : _≡_ {A = ℕ} 0 1 = cc in absurd (omega arith)
-    by false q f g e = let z : _≡_ {A = ℕ} 0 1 = cc in absurd (omega arith)
+within a b c e = let both = and-eq-true-iff (leb a b) (leb b c) .0 e in (leb-true a b (both .0), leb-true b c (both .1))
 
 -- a character that has a digit's value is that digit's
 glyph-digit : (b : ℕ) → digitOf b < 16 → glyph (digitOf b) ≡ b

@@ -1,4 +1,5 @@
 -- What the proofs of several functions use, and the laws that other crates cite.
 pub mod Edges
 pub mod Sums
-pub mod Rows
+pub mod Replaced
+pub mod Readings

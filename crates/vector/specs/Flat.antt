@@ -1,23 +1,24 @@
--- Flat lists: vectors at three places each, and what a loop that writes from the front leaves. Definitions only.
+-- Flat lists, vectors at three places each (document 01, 'What changes shape': lent slices), and what a loop that writes from the front leaves. Definitions only.
 use mathlib.Core.List.{List, [], _∷_, _++_}
 use Prim.Native.Nat.{ℕ, zero, suc, _+_, _*_}
-use lib.ListN.{getD, drop}
+use lib.ListN.{drop}
 use lib.Seq.{sets}
-use lib.Ieee.{Float, nan}
+use lib.Ieee.{Float}
+use Rattle.float.specs.Column.{floatAt}
 use Rattle.vector.specs.declared.Vec3.{Vec3}
 use Rattle.vector.specs.Vector.{vec}
 
 -- the vector number i of a flat list; a float outside is NaN
 abbrev pub vecAt : List Float → ℕ → Vec3
-vecAt l i = vec (getD l (3 * i) nan) (getD l (3 * i + 1) nan) (getD l (3 * i + 2) nan)
+vecAt l i = vec (floatAt l (3 * i)) (floatAt l (3 * i + 1)) (floatAt l (3 * i + 2))
 
 -- a vector's three floats
-abbrev pub parts : Vec3 → List Float
-parts v = v .x ∷ v .y ∷ v .z ∷ []
+abbrev pub components : Vec3 → List Float
+components v = v .x ∷ v .y ∷ v .z ∷ []
 
 -- the list with v as its vector number i; a float outside is left out
 abbrev pub putAt : List Float → ℕ → Vec3 → List Float
-putAt l i v = sets l (3 * i) (parts v)
+putAt l i v = sets l (3 * i) (components v)
 
 -- row 0, row 1, .. , n of them, one after the other
 unfoldable pub rows : {A : Type 0} → (ℕ → List A) → ℕ → List A
@@ -31,7 +32,7 @@ replaced w row n l = rows row n ++ drop (w * n) l
 
 -- with its first n vectors replaced by g 0, g 1, ..
 abbrev pub written : (ℕ → Vec3) → ℕ → List Float → List Float
-written g n l = replaced 3 (λ i. parts (g i)) n l
+written g n l = replaced 3 (λ i. components (g i)) n l
 
 -- with its first n elements replaced by g 0, g 1, ..
 abbrev pub filled : {A : Type 0} → (ℕ → A) → ℕ → List A → List A

@@ -7,8 +7,8 @@ use Rattle.vector.specs.declared.Tangents.{Tangents}
 use Rattle.vector.specs.Vector.{vec}
 
 -- document 01's s
-unfoldable pub side : Float → Float
-side z = cond (le 0f z) 1f (neg 1f)
+unfoldable pub sign : Float → Float
+sign z = cond (le 0f z) 1f (neg 1f)
 
 abbrev pub frameBy : Vec3 → Float → Float → Float → Tangents
 frameBy n s a b =
@@ -19,8 +19,8 @@ frameBy n s a b =
 
 -- with a = -1 / (s + z) and b = x y a: t is (1 + s x x a, s b, -s x), b is (b, s + y y a, -y)
 unfoldable pub frame : Vec3 → Tangents
-unfolding side
+unfolding sign
 frame n =
-    let s = side (n .z) in
+    let s = sign (n .z) in
     let a = neg 1f /f (s +f n .z) in
     frameBy n s a (n .x *f n .y *f a)

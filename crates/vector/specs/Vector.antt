@@ -55,6 +55,10 @@ greaters a b = vec (greater (a .x) (b .x)) (greater (a .y) (b .y)) (greater (a .
 unfoldable pub lessers : Vec3 → Vec3 → Vec3
 lessers a b = vec (lesser (a .x) (b .x)) (lesser (a .y) (b .y)) (lesser (a .z) (b .z))
 
+-- the greatest component: x or y, then that or z
+unfoldable pub greatest : Vec3 → Float
+greatest a = greater (greater (a .x) (a .y)) (a .z)
+
 -- the dot product with itself, and its root
 unfoldable pub lengthSquared : Vec3 → Float
 unfolding dot

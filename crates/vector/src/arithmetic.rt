@@ -2,7 +2,7 @@
 use crate::Vec3;
 ghost use mathlib.Core.Path.{_≡_};
 ghost use Rattle.vector.specs.Vector.{dot, cross, plus, minus, negated, scaled, times, over};
-ghost use Rattle.vector.specs.Vector.{absolutes, greaters, lessers, lengthSquared, lengthOf, normalize, zeroVec};
+ghost use Rattle.vector.specs.Vector.{absolutes, greaters, lessers, greatest, lengthSquared, lengthOf, normalize, zeroVec};
 
 impl Vec3 {
     // The vector of three zeros.
@@ -131,6 +131,13 @@ impl Vec3 {
             y: float::min(self.y, o.y),
             z: float::min(self.z, o.z),
         }
+    }
+
+    // The greatest component; a NaN is passed over.
+    pub fn max_element(self) -> f32
+        ensures { λ r. ⌜ r ≡ greatest self ⌝ }
+    {
+        float::max(float::max(self.x, self.y), self.z)
     }
 
     // The dot product with itself.

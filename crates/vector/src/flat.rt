@@ -1,8 +1,8 @@
-// Vectors of a flat slice, three floats each.
+// Floats of a slice, and vectors of a flat slice, three floats each.
 use crate::Vec3;
 ghost use mathlib.Core.Path.{_≡_};
-ghost use lib.Ieee.{nan};
-ghost use lib.ListN.{getD, set};
+ghost use lib.ListN.{set};
+ghost use Rattle.float.specs.Column.{floatAt};
 ghost use Rattle.vector.specs.Flat.{vecAt, putAt};
 
 // The vector number i of s; each float of it that lies outside s is NaN.
@@ -38,15 +38,15 @@ pub fn put(s: &mut [f32], i: usize, v: Vec3)
     put_float(s, j + 2, v.z);
 }
 
-// The float at k, or NaN where s ends before.
-fn float_at(s: &[f32], k: usize) -> f32
-    ensures { λ r. ⌜ r ≡ getD (now (s .entry)) k nan ⌝ }
+// The float number k of s, or NaN where s ends before.
+pub fn float_at(s: &[f32], k: usize) -> f32
+    ensures { λ r. ⌜ r ≡ floatAt (now (s .entry)) k ⌝ }
 {
     if k < s.len() { s[k] } else { float::nan() }
 }
 
-// Stores x at k, unless s ends before.
-fn put_float(s: &mut [f32], k: usize, x: f32)
+// Stores x as the float number k of s, unless s ends before.
+pub fn put_float(s: &mut [f32], k: usize, x: f32)
     ensures { λ r. ⌜ now (s .exit) ≡ set (now (s .entry)) k x ⌝ }
 {
     if k < s.len() {

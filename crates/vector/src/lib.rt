@@ -1,12 +1,14 @@
 // Vectors of three floats by value, vectors of a flat slice, and the tangent frame.
 //
-// Every public function is total: a vector that lies outside a slice reads as NaN and is not stored.
+// Every public function is total: what lies outside a slice reads as NaN and is not stored.
 mod arithmetic;
 mod flat;
 mod tangent;
 
 pub use flat::at;
+pub use flat::float_at;
 pub use flat::put;
+pub use flat::put_float;
 pub use tangent::frame;
 
 // Three floats: a point, a direction, or light in three channels.

@@ -2,13 +2,13 @@
 use crate::Tangents;
 use crate::Vec3;
 ghost use mathlib.Core.Path.{_≡_};
-ghost use Rattle.vector.specs.Tangent.{side, frame};
+ghost use Rattle.vector.specs.Tangent.{sign, frame};
 
 // The two directions that go with the normal n. Where n.z is 0, of either sign, n counts as facing up.
 pub fn frame(n: Vec3) -> Tangents
     ensures { λ r. ⌜ r ≡ frame n ⌝ }
 {
-    let s = side(n.z);
+    let s = sign(n.z);
     let a = -1.0 / (s + n.z);
     let b = n.x * n.y * a;
     Tangents {
@@ -26,8 +26,8 @@ pub fn frame(n: Vec3) -> Tangents
 }
 
 // 1 where z is 0 or more, else -1.
-fn side(z: f32) -> f32
-    ensures { λ r. ⌜ r ≡ side z ⌝ }
+fn sign(z: f32) -> f32
+    ensures { λ r. ⌜ r ≡ sign z ⌝ }
 {
     if z >= 0.0 { 1.0 } else { -1.0 }
 }

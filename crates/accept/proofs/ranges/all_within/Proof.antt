@@ -4,7 +4,8 @@ use Prim.Native.Nat.{_-_, _≤_}
 use native.Mathlib.Omega.{arith}
 use borrow.Author.Needs.{needs}
 use Rattle.accept.specs.Every.{every}
-use Rattle.accept.specs.Ranges.{within, allWithin, floatAt}
+use Rattle.float.specs.Column.{floatAt}
+use Rattle.accept.specs.Ranges.{within, allWithin}
 use Rattle.accept.proofs.Every.{every-none, every-more}
 use Rattle.accept.proofs.ranges.all_within.Statement.{statement}
 use Rattle.accept.proofs.ranges.all_within.Tie as tie

@@ -1,11 +1,11 @@
--- `accept::tables::all_ascend` meets its contract. The loop has tested the first i rows; the starts climb, so each row lies within the links. Assumes nothing.
+-- `accept::tables::all_ascend` meets its contract. The loop has tested the first i rows; the starts never fall, so each row lies within the links. Assumes nothing.
 use mathlib.Core.Path.{_≡_}
 use Prim.Native.Nat.{_+_, _-_, _≤_}
 use native.Mathlib.Omega.{arith}
 use borrow.Author.Needs.{needs}
 use Rattle.accept.specs.Every.{every}
 use Rattle.accept.specs.Tables.{ascends, allAscend, numberAt}
-use Rattle.accept.proofs.Climbing.{climbing}
+use Rattle.accept.proofs.Starts.{is-monotone}
 use Rattle.accept.proofs.Every.{every-none, every-more}
 use Rattle.accept.proofs.tables.all_ascend.Statement.{statement}
 use Rattle.accept.proofs.tables.all_ascend.Tie as tie
@@ -25,7 +25,7 @@ ascends-requires c κs =
     let t = c .before .before .before .before in
     let s = t .before .before .before .before in
     let i = t .before .loop .i in
-    let h = climbing (numberAt (s .args .starts .now)) (s .args .n) (s .args .count) (s .pre .1 .0) in
+    let h = is-monotone (numberAt (s .args .starts .now)) (s .args .n) (s .args .count) (s .pre .1 .0) in
     let u = h .rising i (t .loop-test .taken) in
     let v = h .inside (i + 1) (omega (arith, t)) in
     omega (arith, c .wide2, c .before .before .wide, s .pre)

@@ -7,7 +7,7 @@ use Rattle.float.proofs.cells.cell.Tie as tie
 
 returns : tie.Need-returns
 unfolding cell
-returns c = omega (arith, c .before .cut .ensures)
+returns c = omega (arith, c .before .truncate .ensures)
 
 returns-2 : tie.Need-returns-2
 unfolding cell
@@ -15,7 +15,7 @@ returns-2 c = omega arith
 
 returns-3 : tie.Need-returns-3
 unfolding cell
-returns-3 c = omega (arith, c .before .before .cut .ensures)
+returns-3 c = omega (arith, c .before .before .truncate .ensures)
 
 pub cell-spec : {M : Type 1} → statement M
 cell-spec = tie.close (tie.spec (λ c κs. search needs) (λ c. search needs) returns returns-2 returns-3)

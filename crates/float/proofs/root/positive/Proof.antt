@@ -14,13 +14,17 @@ sub-rounded : tie.Need-sub-rounded
 sub-rounded c = omega (arith, z-le (c .before .args .b) (c .before .pre .0) (c .if1 .taken))
 
 rounded-requires : tie.Need-rounded-requires
-rounded-requires c κs = ready-small (c .before .args .b) (c .before .pre .0) (c .if1 .taken)
+rounded-requires c κs =
+    let s = c .before in
+    let d = ready-small (s .args .b) (s .pre .0) (c .if1 .taken) in
+    let l = z-le (s .args .b) (s .pre .0) (c .if1 .taken) in
+    (d .0, d .1, omega arith, omega arith)
 
 add-rounded : tie.Need-add-rounded
 add-rounded c = omega arith
 
 rounded-requires-2 : tie.Need-rounded-requires-2
-rounded-requires-2 c κs = ready-normal (c .before .args .b) (c .before .pre .1) (c .if1 .left)
+rounded-requires-2 c κs = let d = ready-normal (c .before .args .b) (c .before .pre .1) (c .if1 .left) in (d .0, d .1, omega arith, omega arith)
 
 returns : tie.Need-returns
 returns c = done-small (c .before .before .args .b) (c .before .before .pre .0) (c .before .if1 .taken) (c .rounded .result) (c .rounded .ensures)

@@ -1,8 +1,8 @@
 -- `float::root::rounded` meets its contract. Twice the root is taken whole, so adding 1 and halving rounds it. Assumes nothing.
-use Prim.Native.Nat.{_+_, _/_}
 use native.Mathlib.Omega.{arith}
-use mir.Facts.{fits-bits, fits-below}
-use Rattle.float.proofs.Rounding.{shift-le, between, h-lt, mask-lt, rounded-is}
+use borrow.Author.Needs.{needs}
+use mir.Facts.{fits-below}
+use Rattle.float.proofs.Rounding.{shift-le, between, h-lt, rounded-is}
 use Rattle.float.proofs.root.rounded.Statement.{statement}
 use Rattle.float.proofs.root.rounded.Tie as tie
 
@@ -21,11 +21,8 @@ whole-root-requires c κs = between _ _ (c .pre)
 add-q : tie.Need-add-q
 add-q c = omega (arith, h-lt _ _ (c .before .pre) _ (c .whole-root .ensures))
 
-cast-result : tie.Need-cast-result
-cast-result c = fits-bits 23 tt (mask-lt ((c .whole-root .result + 1) / 2))
-
 returns : tie.Need-returns
-returns c = rounded-is _ _ (c .before .pre) _ (c .whole-root .ensures)
+returns c = rw (c .fraction .ensures) (rounded-is _ _ (c .before .before .pre) _ (c .before .whole-root .ensures))
 
 pub rounded-spec : {M : Type 1} → statement M
-rounded-spec = tie.close (tie.spec add-wide cast-wide shl-wide whole-root-requires add-q cast-result returns)
+rounded-spec = tie.close (tie.spec add-wide cast-wide shl-wide whole-root-requires add-q (λ c κs. search needs) returns)

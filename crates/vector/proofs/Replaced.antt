@@ -12,7 +12,7 @@ use lib.Seq.{sets, sets-eq, take-at, drop-at, drop-drop, getD-drop, getD-take}
 use lib.Ieee.{Float, nan}
 use Rattle.vector.specs.declared.Vec3.{Vec3}
 use Rattle.vector.specs.Vector.{vec}
-use Rattle.vector.specs.Flat.{vecAt, putAt, parts, rows, replaced, written, filled}
+use Rattle.vector.specs.Flat.{vecAt, putAt, components, rows, replaced, written, filled}
 
 module _ {A : Type 0} (w : ℕ) (row : ℕ → List A) (wide : (i : ℕ) → length (row i) ≡ w) where
   pub length-rows : (n : ℕ) → length (rows row n) ≡ w * n
@@ -78,10 +78,10 @@ three : {a b c x y z : Float} → a ≡ x → b ≡ y → c ≡ z → vec a b c 
 three p q r = rw (p, q, r)
 
 -- a vector is what stands at its three places
-vec-by : (l : List Float) (i : ℕ) {v : Vec3} → take 3 (drop (3 * i) l) ≡ parts v → vecAt l i ≡ v
+vec-by : (l : List Float) (i : ℕ) {v : Vec3} → take 3 (drop (3 * i) l) ≡ components v → vecAt l i ≡ v
 vec-by l i {v} e = three (part 0 (3 * i) (omega arith) (omega arith)) (part 1 (3 * i + 1) (omega arith) (omega arith)) (part 2 (3 * i + 2) (omega arith) (omega arith))
   where
-    part : (j k : ℕ) → k ≡ 3 * i + j → j < 3 → getD l k nan ≡ getD (parts v) j nan
+    part : (j k : ℕ) → k ≡ 3 * i + j → j < 3 → getD l k nan ≡ getD (components v) j nan
     part j k f h = place l (3 * i) j k nan f ∙ sym (getD-take 3 (drop (3 * i) l) j nan h) ∙ ap (λ (m : List Float). getD m j nan) e
 
 vec-same : (l m : List Float) (i : ℕ) → drop (3 * i) l ≡ drop (3 * i) m → vecAt l i ≡ vecAt m i
@@ -92,7 +92,7 @@ vec-same l m i e = three (part 0 (3 * i) (omega arith)) (part 1 (3 * i + 1) (ome
 
 module _ (g : ℕ → Vec3) where
   abbrev row : ℕ → List Float
-  row i = parts (g i)
+  row i = components (g i)
 
   wide : (i : ℕ) → length (row i) ≡ 3
   wide i = refl
@@ -120,7 +120,7 @@ module _ (g : ℕ → Vec3) where
   at-next n l p q = rw (q, p) (at-past n n l (omega arith))
 
 pub written-same : (f g : ℕ → Vec3) (n : ℕ) (l : List Float) → ((i : ℕ) → i < n → f i ≡ g i) → written f n l ≡ written g n l
-written-same f g n l h = replaced-same 3 (λ i. parts (f i)) (λ i. parts (g i)) n l (λ i k. ap parts (h i k))
+written-same f g n l h = replaced-same 3 (λ i. components (f i)) (λ i. components (g i)) n l (λ i k. ap components (h i k))
 
 -- ---- single elements
 
