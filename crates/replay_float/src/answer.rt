@@ -1,13 +1,12 @@
 // What an operation answers.
-use crate::case;
-use crate::case::Words;
-use float::bits_of;
 use float::of_bits;
+use replay::Words;
+use replay::named;
 use vector::Vec3;
 
 // The result words of the case that a line is; none where it is no case.
 pub fn to(line: &[u8]) -> Words {
-    let operands = case::operands(line);
+    let operands = replay::operands(line);
     let w = operands.words;
     let count = operands.count;
     if count == 1 {
@@ -21,86 +20,86 @@ pub fn to(line: &[u8]) -> Words {
     } else if count == 6 {
         of_six(line, vec(w[0], w[1], w[2]), vec(w[3], w[4], w[5]))
     } else {
-        unread()
+        Words::none()
     }
 }
 
 fn of_one(line: &[u8], x: f32) -> Words {
-    if case::named(line, b"sqrt") {
-        return number(float::sqrt(x));
+    if named(line, b"sqrt") {
+        return float_word(float::sqrt(x));
     }
-    if case::named(line, b"abs") {
-        return number(float::abs(x));
+    if named(line, b"abs") {
+        return float_word(float::abs(x));
     }
-    if case::named(line, b"signum") {
-        return number(float::signum(x));
+    if named(line, b"signum") {
+        return float_word(float::signum(x));
     }
-    if case::named(line, b"finite") {
-        return word(float::is_finite(x) as u32);
+    if named(line, b"finite") {
+        return Words::none().with(float::is_finite(x) as u32);
     }
-    if case::named(line, b"count") {
+    if named(line, b"count") {
         return whole(float::cell_count(x));
     }
-    unread()
+    Words::none()
 }
 
 fn of_two(line: &[u8], a: f32, b: u32) -> Words {
-    if case::named(line, b"max") {
-        return number(float::max(a, of_bits(b)));
+    if named(line, b"max") {
+        return float_word(float::max(a, of_bits(b)));
     }
-    if case::named(line, b"min") {
-        return number(float::min(a, of_bits(b)));
+    if named(line, b"min") {
+        return float_word(float::min(a, of_bits(b)));
     }
-    if case::named(line, b"cell") {
+    if named(line, b"cell") {
         return whole(float::cell(a, b as usize));
     }
-    unread()
+    Words::none()
 }
 
 fn of_three(line: &[u8], v: Vec3) -> Words {
-    if case::named(line, b"clamp") {
-        return number(float::clamp(v.x, v.y, v.z));
+    if named(line, b"clamp") {
+        return float_word(float::clamp(v.x, v.y, v.z));
     }
-    if case::named(line, b"length") {
-        return number(v.length());
+    if named(line, b"length") {
+        return float_word(v.length());
     }
-    if case::named(line, b"normalize") {
-        return vector_of(v.normalize());
+    if named(line, b"normalize") {
+        return vector_words(v.normalize());
     }
-    if case::named(line, b"frame") {
+    if named(line, b"frame") {
         let f = vector::frame(v);
-        return two_vectors(f.t, f.b);
+        return vector_words(f.t).with_vector(f.b);
     }
-    unread()
+    Words::none()
 }
 
 fn of_four(line: &[u8], v: Vec3, k: f32) -> Words {
-    if case::named(line, b"scaled") {
-        return vector_of(v.scaled(k));
+    if named(line, b"scaled") {
+        return vector_words(v.scaled(k));
     }
-    if case::named(line, b"over") {
-        return vector_of(v.over(k));
+    if named(line, b"over") {
+        return vector_words(v.over(k));
     }
-    unread()
+    Words::none()
 }
 
 fn of_six(line: &[u8], a: Vec3, b: Vec3) -> Words {
-    if case::named(line, b"dot") {
-        return number(a.dot(b));
+    if named(line, b"dot") {
+        return float_word(a.dot(b));
     }
-    if case::named(line, b"cross") {
-        return vector_of(a.cross(b));
+    if named(line, b"cross") {
+        return vector_words(a.cross(b));
     }
-    if case::named(line, b"plus") {
-        return vector_of(a.plus(b));
+    if named(line, b"plus") {
+        return vector_words(a.plus(b));
     }
-    if case::named(line, b"minus") {
-        return vector_of(a.minus(b));
+    if named(line, b"minus") {
+        return vector_words(a.minus(b));
     }
-    if case::named(line, b"times") {
-        return vector_of(a.times(b));
+    if named(line, b"times") {
+        return vector_words(a.times(b));
     }
-    unread()
+    Words::none()
 }
 
 fn vec(x: u32, y: u32, z: u32) -> Vec3 {
@@ -111,50 +110,19 @@ fn vec(x: u32, y: u32, z: u32) -> Vec3 {
     }
 }
 
-fn unread() -> Words {
-    Words {
-        words: [0; 6],
-        count: 0,
-    }
-}
-
-fn word(w: u32) -> Words {
-    Words {
-        words: [w, 0, 0, 0, 0, 0],
-        count: 1,
-    }
-}
-
-fn number(x: f32) -> Words {
-    word(bits_of(x))
+fn float_word(x: f32) -> Words {
+    Words::none().with_float(x)
 }
 
 // A whole number; the largest u32 for any that is larger.
 fn whole(n: usize) -> Words {
     if n <= 0xffff_ffff {
-        word(n as u32)
+        Words::none().with(n as u32)
     } else {
-        word(0xffff_ffff)
+        Words::none().with(0xffff_ffff)
     }
 }
 
-fn vector_of(v: Vec3) -> Words {
-    Words {
-        words: [bits_of(v.x), bits_of(v.y), bits_of(v.z), 0, 0, 0],
-        count: 3,
-    }
-}
-
-fn two_vectors(a: Vec3, b: Vec3) -> Words {
-    Words {
-        words: [
-            bits_of(a.x),
-            bits_of(a.y),
-            bits_of(a.z),
-            bits_of(b.x),
-            bits_of(b.y),
-            bits_of(b.z),
-        ],
-        count: 6,
-    }
+fn vector_words(v: Vec3) -> Words {
+    Words::none().with_vector(v)
 }

@@ -1,28 +1,28 @@
 // Printing an answer.
-use crate::case::Words;
+use crate::Words;
 use libc::STDOUT_FILENO;
 
-// Writes the words of a result, a space between two, or `unread` where there is none, and a newline.
-pub fn result(r: Words) {
+// Writes the words, a space between two, or `unread` where there is none, and a newline.
+pub fn print_words(r: Words) {
     let count = r.count;
     if count == 0 {
         io::write_all(STDOUT_FILENO, b"unread\n");
         return;
     }
-    if 6 < count {
+    if 16 < count {
         return;
     }
     let words = r.words;
-    let mut line = [b' '; 54];
-    lay(&mut line, &words);
+    let mut line = [b' '; 144];
+    put_words(&mut line, &words);
     text::put(&mut line, 9 * count - 1, b"\n");
     write_start(&line, 9 * count);
 }
 
 // Puts each word's digits into the line, nine bytes a word.
-fn lay(line: &mut [u8], words: &[u32; 6]) {
+fn put_words(line: &mut [u8], words: &[u32; 16]) {
     let mut k = 0;
-    while k < 6 {
+    while k < 16 {
         let digits = text::hex(words[k]);
         text::put(line, 9 * k, &digits);
         k += 1;

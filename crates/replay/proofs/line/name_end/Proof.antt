@@ -1,8 +1,8 @@
--- `replay_float::case::name_end` meets its contract. The loop stops at 16. Assumes nothing.
+-- `replay::line::name_end` meets its contract. The loop stops at 16. Assumes nothing.
 use Prim.Native.Nat.{_-_, _≤_}
 use borrow.Author.Needs.{needs}
-use Rattle.replay_float.proofs.case.name_end.Statement.{statement}
-use Rattle.replay_float.proofs.case.name_end.Tie as tie
+use Rattle.replay.proofs.line.name_end.Statement.{statement}
+use Rattle.replay.proofs.line.name_end.Tie as tie
 
 abbrev Inv-loop : tie.InvT-loop
 Inv-loop line i₀ i = i ≤ 16

@@ -1,9 +1,9 @@
--- `replay_float::print::write_start` is safe and ends. The first n bytes of a line that has as many are n. Assumes nothing.
+-- `replay::print::write_start` is safe and ends. The first n bytes of a line that has as many are n. Assumes nothing.
 use mathlib.Core.Path.{sym}
 use lib.Seq.{length-take-le}
 use borrow.Author.Needs.{needs}
-use Rattle.replay_float.proofs.print.write_start.Statement.{statement}
-use Rattle.replay_float.proofs.print.write_start.Tie as tie
+use Rattle.replay.proofs.print.write_start.Statement.{statement}
+use Rattle.replay.proofs.print.write_start.Tie as tie
 
 slice-aggregate-write-all : tie.Need-slice-aggregate-write-all
 slice-aggregate-write-all c = sym (length-take-le _ _ (search needs))

@@ -1,0 +1,19 @@
+// What the replay programs share: a text cut into lines, a line's name and words, and a line of
+// words printed.
+//
+// A line is a name, then words of eight hexadecimal digits, a single space before each, and a
+// newline. No public function has a `requires`.
+mod line;
+mod print;
+mod result;
+
+pub use line::line_end;
+pub use line::named;
+pub use line::operands;
+pub use print::print_words;
+
+// Up to 16 words, the operands or the result of a case: the first `count` of them.
+pub struct Words {
+    pub words: [u32; 16],
+    pub count: usize,
+}
