@@ -81,7 +81,7 @@ row-ascending starts links n e i h =
 pub record AscendingRows (starts : List ℕ) (n : ℕ) (links : List ℕ) (count : ℕ) : Type 0 where
   pub started : n < length starts
   pub linked : count ≤ length links
-  pub starts-are : Monotone (numberAt starts) n count
+  pub rise : Monotone (numberAt starts) n count
   pub ascend : (i : ℕ) → i < n → (j k : ℕ) → numberAt starts i ≤ j → j < k → k < numberAt starts (i + 1) → numberAt links j < numberAt links k
 
 pub links-ascending : (starts : List ℕ) (n : ℕ) (links : List ℕ) (count : ℕ) → linksAscend starts n links count ≡ true → AscendingRows starts n links count
@@ -91,6 +91,6 @@ links-ascending starts n links count e =
     record {
       started = s .0;
       linked = leb-true _ _ (h .1 .0);
-      starts-are = s .1;
+      rise = s .1;
       ascend = row-ascending (numberAt starts) (numberAt links) n (h .1 .1 .0);
     }

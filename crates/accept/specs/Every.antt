@@ -1,4 +1,4 @@
--- Document 01, 'Refused calls': several tests as one.
+-- Document 01, 'Refused calls': several tests as one. Definitions only.
 use mathlib.Core.Bool.{Bool, true, _&&_}
 use mathlib.Core.List.{List, [], _∷_}
 use Prim.Native.Nat.{ℕ, zero, suc}

@@ -1,4 +1,4 @@
--- Document 01, 'Refused calls': the limits of 1, 2, 3 and 5. A float is given by its bits, the one nearest the decimal.
+-- Document 01, 'Refused calls': the limits of 1, 2, 3 and 5. A float is given by its bits, the one nearest the decimal. Definitions only.
 use mathlib.Core.List.{List, [], _∷_}
 use Prim.Native.Nat.{ℕ}
 use lib.Ieee.{Float, binary32, ofBits}

@@ -1,4 +1,4 @@
--- Document 01, 'Refused calls', 3 and 5: floats in their range.
+-- Document 01, 'Refused calls', 3 and 5: floats in their range. Definitions only.
 use mathlib.Core.Bool.{Bool, _&&_}
 use mathlib.Core.List.{List, [], _∷_}
 use Prim.Native.Nat.{ℕ, _*_}

@@ -1,4 +1,4 @@
--- Document 01, 'Refused calls': which number is returned.
+-- Document 01, 'Refused calls': which number is returned. Definitions only.
 use mathlib.Core.Bool.{Bool, cond}
 use mathlib.Core.List.{List, [], _∷_}
 use Prim.Native.Nat.{ℕ}

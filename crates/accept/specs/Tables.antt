@@ -1,4 +1,4 @@
--- Document 01, 'Refused calls', 4 and 7: slices that are long enough, and numbers that fit together.
+-- Document 01, 'Refused calls', 2, 4 and 7: counts within limits, slices that are long enough, and numbers that fit together. Definitions only.
 use mathlib.Core.Bool.{Bool, _&&_}
 use mathlib.Core.List.{List, [], _∷_}
 use Prim.Native.Nat.{ℕ, zero, suc, _+_, _*_, _-_}
@@ -47,7 +47,7 @@ numberAt l k = getD l k 0
 abbrev pub numbersBelow : List ℕ → ℕ → ℕ → Bool
 numbersBelow l n bound = leb n (length l) && allBelow (numberAt l) n bound
 
--- a list has n + 1 starts or more, the first n + 1 is-monotone to `end`
+-- a list has n + 1 starts or more, and the first n + 1 begin at 0, never fall and end at `end`
 abbrev pub startsMonotone : List ℕ → ℕ → ℕ → Bool
 startsMonotone starts n end = ltb n (length starts) && monotone (numberAt starts) n end
 

@@ -1,12 +1,15 @@
 // The float functions that are compared with the processor's at every bit pattern.
 ghost use mathlib.Core.Path.{_≡_};
-ghost use Rattle.float.specs.Root.{squareRoot};
+ghost use lib.Dec.{T};
+ghost use lib.Ieee.Positive.{positive};
+ghost use Rattle.float.specs.Root.{squareRoot, NearestRoot};
 ghost use Rattle.float.specs.Cells.{cell, cellCount};
 
 // The square root: the float nearest the exact root, ties to even.
 #[no_mangle]
 pub extern "C" fn interflect_sqrt(x: f32) -> f32
     ensures { λ r. ⌜ r ≡ squareRoot x ⌝ }
+    ensures nearest { λ r. ⌜ (T (positive x) → NearestRoot x r) ⌝ }
 {
     float::sqrt(x)
 }

@@ -1,4 +1,4 @@
--- A number as text, for document 01, 'The room file and `roomlight`': floats are eight hexadecimal digits of their bits, counts are decimal. Assumes nothing.
+-- A number as text, for document 01, 'The room file and `roomlight`': floats are eight hexadecimal digits of their bits, counts are decimal. Definitions only.
 use Prim.Native.Nat.{ℕ, zero, suc, _+_, _-_, _/_, _%_}
 use mathlib.Core.Bool.{cond}
 use mathlib.Core.List.{List, [], _∷_, _++_}

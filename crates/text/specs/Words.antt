@@ -1,4 +1,4 @@
--- A word read from text, the way that document 01, 'The room file and `roomlight`', prints one. Assumes nothing.
+-- A word read from text, the way that document 01, 'The room file and `roomlight`', prints one. Definitions only.
 use Prim.Native.Nat.{ℕ, _+_, _*_, _-_}
 use mathlib.Core.Bool.{cond, _&&_}
 use mathlib.Core.List.{List, [], _∷_}

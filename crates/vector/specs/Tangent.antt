@@ -10,6 +10,7 @@ use Rattle.vector.specs.Vector.{vec}
 unfoldable pub sign : Float → Float
 sign z = cond (le 0f z) 1f (neg 1f)
 
+-- the frame of n by its s, a and b
 abbrev pub frameBy : Vec3 → Float → Float → Float → Tangents
 frameBy n s a b =
     record {
