@@ -1,13 +1,13 @@
-//! Facts that document 01 gives, asked of this build of the Rust, and two places where another order
-//! of float steps gives other bits. `oracle/build` runs these tests.
+//! Facts that document 01 gives, asked of this build of the Rust, two places where another order of
+//! float steps gives other bits, and the tables of the closure's directions. `oracle/build` runs
+//! these tests.
 
-use interflect::bvh::Bvh;
 use interflect::formfactor::{self, Cluster, Transfer};
-use interflect::scene::{Camera, RenderCfg, Scene};
+use interflect::scene::{open::of_shapes, Scene};
 use interflect::sdf::{Object, Prim};
 use interflect::solve::solve;
 use interflect::surfel::{self, gather, Grid, Surfel};
-use interflect::{trace, Vec3};
+use interflect::{ltc, trace, Vec3};
 
 /// The surfel of room Q after a reset, and the room's one link.
 fn room_q() -> ([Surfel; 1], Transfer) {
@@ -122,30 +122,103 @@ fn cells_are_counted_by_one_over_the_cell() {
     assert_eq!(grid.dim, [6, 6, 6]);
 }
 
+/// A plane without subtractions.
+fn plane(n: Vec3, h: f32) -> Object {
+    alone(Prim::Plane { n, h })
+}
+
+/// A shape without subtractions.
+fn alone(prim: Prim) -> Object {
+    Object {
+        prim,
+        subtract: Vec::new(),
+        mat: 0,
+        blend: 0.0,
+    }
+}
+
 /// A scene's normal is divided by its length: multiplied by one over it, y would be 3F2FC423.
 #[test]
 fn a_normal_is_divided_by_its_length() {
     let [x, y, z] = [0x3F0A69F0, 0x3F2FC49B, 0x3EF8DCFB].map(f32::from_bits);
-    let plane = Object {
-        prim: Prim::Plane {
-            n: Vec3::new(x, y, z),
-            h: 0.0,
-        },
-        subtract: Vec::new(),
-        mat: 0,
-        blend: 0.0,
-    };
-    let scene = Scene {
-        objects: Vec::new(),
-        planes: vec![plane],
-        materials: Vec::new(),
-        lights: Vec::new(),
-        camera: Camera::default(),
-        cfg: RenderCfg::default(),
-        bvh: Bvh::build(&[]),
-        use_bvh: false,
-        bounds: (Vec3::ZERO, Vec3::ONE),
-    };
+    let scene = of_shapes(vec![plane(Vec3::new(x, y, z), 0.0)], Vec::new());
     let normal = scene.normal(Vec3::new(0.25, 0.5, 0.125));
     assert_eq!(normal.y.to_bits(), 0x3F2FC424);
+}
+
+// ---- the 16 directions of the closure: the tables that the port has (`oracle/directions`)
+
+const COS: [u32; 16] = [
+    0xBF000001, 0xBEFFFFFD, 0x3F441B7C, 0xBF708FB4, 0x3E31D0F2, 0x3E31D0C7, 0xBF708FB1, 0x3F441B86,
+    0x3F791978, 0xBF2FAD89, 0xBE92D7E2, 0x3F18DF61, 0xBF7E44DF, 0x3ECACAFF, 0xBD6E2984, 0xBF55E287,
+];
+
+/// On a C library that rounds correctly the last is BF0CACA0.
+const SIN: [u32; 16] = [
+    0x3F5DB3D7, 0xBF5DB3D8, 0x3F248DBC, 0x3EAF1D37, 0xBF7C1C5B, 0x3F7C1C5D, 0xBEAF1D4C, 0xBF248DB0,
+    0x3E6C2693, 0x3F3A3528, 0xBF753ECD, 0x3F4D57F3, 0x3DEDC1E6, 0xBF6B1034, 0x3F7F911F, 0xBF0CAC9F,
+];
+
+/// The factors of t, of b and of n.
+const PARTS: [[u32; 3]; 16] = [
+    [0xBEB504F4, 0x3F1CC470, 0x3F3504F3],
+    [0xBE7FFFFD, 0xBEDDB3D8, 0x3F5DB3D7],
+    [0x3F29D57E, 0x3F0E81F5, 0x3F000000],
+    [0xBEAA1A41, 0x3DF7A615, 0x3F6F7751],
+    [0x3E0C9378, 0xBF474FA2, 0x3F1CC471],
+    [0x3DD9C757, 0x3F1A62BE, 0x3F4A62C2],
+    [0xBF610645, 0xBEA3CDF8, 0x3EB504F3],
+    [0x3E441B86, 0xBE248DB0, 0x3F77DEF6],
+    [0x3F3AD31A, 0x3E311CEE, 0x3F2953FD],
+    [0xBEC469F1, 0x3ED02FBD, 0x3F544395],
+    [0xBE845CDD, 0xBF5D0FA7, 0x3EDDB3D7],
+    [0x3E84643B, 0x3EB1D52E, 0x3F66C15A],
+    [0xBF52D429, 0x3DC52357, 0x3F0F1BBD],
+    [0x3E86228B, 0xBF1B7AD1, 0x3F400000],
+    [0xBD66997B, 0x3F77739A, 0x3E800000],
+    [0xBE173D4C, 0xBDC6F189, 0x3F7BF7DF],
+];
+
+#[test]
+fn the_16_directions() {
+    for k in 0..16 {
+        let direction = trace::open::direction(k as u32);
+        assert_eq!(direction.cos.to_bits(), COS[k]);
+        assert_eq!(direction.sin.to_bits(), SIN[k]);
+        assert_eq!(direction.parts.map(f32::to_bits), PARTS[k]);
+    }
+}
+
+/// The closure by the table: the open part and the evaluations of its 16 marches.
+fn closure_by_table(scene: &Scene, p: Vec3, n: Vec3, tmax: f32) -> (f32, u32) {
+    let (t, b) = ltc::frame(n);
+    let marches = PARTS.map(|part| {
+        let [x, y, z] = part.map(f32::from_bits);
+        let d = t * x + b * y + n * z;
+        trace::trace(scene, p + n * 1e-3, d.normalize(), 1e-3, tmax)
+    });
+    let open = marches.iter().filter(|(hit, _)| hit.is_none()).count();
+    let evals = marches.iter().map(|(_, evals)| evals).sum();
+    (open as f32 / 16.0, evals)
+}
+
+/// `hemisphere_closure` itself marches in the table's directions: in each of these scenes, by ends
+/// that lie close to one another, it counts the same directions as open.
+#[test]
+fn the_closure_takes_these_directions() {
+    let floor = plane(Vec3::Y, 0.0);
+    let wall = plane(Vec3::new(-0.6, 0.0, 0.8), -2.0);
+    for size in [0.25, 0.5, 1.0, 1.5] {
+        let ball = alone(Prim::Sphere {
+            c: Vec3::new(0.5, 2.0, -0.25),
+            r: size,
+        });
+        let scene = of_shapes(vec![floor.clone(), wall.clone()], vec![ball]);
+        for end in 0..200 {
+            let tmax = 0.05 * end as f32;
+            let (p, n) = (Vec3::new(0.25, 0.0, 0.125), Vec3::Y);
+            let closure = trace::hemisphere_closure(&scene, p, n, tmax, 16);
+            assert_eq!(closure, closure_by_table(&scene, p, n, tmax));
+        }
+    }
 }

@@ -20,4 +20,9 @@ impl Random {
     pub fn below(&mut self, bound: u32) -> u32 {
         ((u64::from(self.word()) * u64::from(bound)) >> 32) as u32
     }
+
+    /// A float from `lo` to `hi`.
+    pub fn between(&mut self, lo: f32, hi: f32) -> f32 {
+        lo + (hi - lo) * (self.word() >> 8) as f32 / 16_777_216.0
+    }
 }

@@ -3,24 +3,42 @@
 
 mod answers;
 mod cases;
+mod queries;
 mod random;
+mod refusals;
+mod scene_cases;
+mod tables;
 
 use cases::Case;
 use std::path::Path;
 use std::{env, fs, io};
+use tables::Tables;
 
 fn main() -> io::Result<()> {
     let crates = env::args_os().nth(1).expect("usage: replay CRATES");
-    write(&Path::new(&crates).join("replay_float"), &cases::floats())
+    let crates = Path::new(&crates);
+    write(&crates.join("replay_float"), &cases::floats(), |case| {
+        Some(answers::answer(case.name, &case.operands))
+    })?;
+    let mut tables = Tables::new();
+    write(&crates.join("replay_scene"), &scene_cases::all(), |case| {
+        (!tables.store(case)).then(|| queries::answer(&tables, case))
+    })
 }
 
-/// Writes the cases and their answers into a folder, a line each, and prints how many there are.
-fn write(folder: &Path, cases: &[Case]) -> io::Result<()> {
+/// Writes the cases and their answers into a folder, a line each, and prints how many there are. A
+/// case without an answer has no line in stdout.
+fn write(
+    folder: &Path,
+    cases: &[Case],
+    mut answer: impl FnMut(&Case) -> Option<Vec<u32>>,
+) -> io::Result<()> {
     let (mut stdin, mut stdout) = (String::new(), String::new());
     for case in cases {
         stdin += &format!("{} {}\n", case.name, hexadecimal(&case.operands));
-        stdout += &hexadecimal(&answers::answer(case.name, &case.operands));
-        stdout += "\n";
+        if let Some(words) = answer(case) {
+            stdout += &format!("{}\n", hexadecimal(&words));
+        }
     }
     fs::create_dir_all(folder)?;
     fs::write(folder.join("stdin"), &stdin)?;
@@ -38,11 +56,18 @@ fn hexadecimal(words: &[u32]) -> String {
     digits.join(" ")
 }
 
-/// How many cases each operation has, as text.
+/// How many cases each operation has, as text, in the order in which they first come.
 fn counted(cases: &[Case]) -> String {
-    let groups = cases.chunk_by(|a, b| a.name == b.name);
-    let counts: Vec<String> = groups
-        .map(|group| format!("{} {}", group[0].name, group.len()))
+    let mut counts: Vec<(&str, usize)> = Vec::new();
+    for case in cases {
+        match counts.iter_mut().find(|(name, _)| *name == case.name) {
+            Some((_, count)) => *count += 1,
+            None => counts.push((case.name, 1)),
+        }
+    }
+    let counts: Vec<String> = counts
+        .iter()
+        .map(|(name, n)| format!("{name} {n}"))
         .collect();
     counts.join(", ")
 }

@@ -1,8 +1,15 @@
-// The C interface: each entry under the name `interflect_..`, over numbers and slices.
+// The C interface: each entry under the name `interflect_..`, over numbers, slices and `&mut` to a
+// number.
 //
 // No function here asks anything of its caller.
 mod floats;
+mod scenes;
 
 pub use floats::interflect_cell;
 pub use floats::interflect_cell_count;
 pub use floats::interflect_sqrt;
+pub use scenes::interflect_dist_mat;
+pub use scenes::interflect_hemisphere_closure;
+pub use scenes::interflect_normal;
+pub use scenes::interflect_soft_shadow;
+pub use scenes::interflect_trace;

@@ -1,0 +1,47 @@
+-- One test of `project` in the words of the code: what its calls gave, each with its equation. Assumes nothing.
+use mathlib.Core.Bool.{Bool, true, false, not}
+use mathlib.Core.Path.{_≡_, refl, sym}
+use Prim.Native.Nat.{ℕ, suc}
+use lib.Ieee.{Float, lt}
+use lib.Ieee.Scale.{finite}
+use Rattle.float.specs.Sign.{abs}
+use Rattle.float.proofs.Signs.{clash}
+use Rattle.vector.specs.declared.Vec3.{Vec3}
+use Rattle.vector.specs.Vector.{minus, scaled}
+use Rattle.tables.specs.Tables.{Scene}
+use Rattle.field.specs.declared.Projected.the-variants.{None as Off}
+use Rattle.field.specs.Nearest.{dist}
+use Rattle.field.specs.Gradient.{normal}
+use Rattle.field.specs.Projection.{confirmed, moved, projectFrom}
+
+-- a test that is turned round
+pub not-true : (b : Bool) → not b ≡ true → b ≡ false
+not-true true h = clash (sym h)
+not-true false h = refl
+
+pub not-false : (b : Bool) → not b ≡ false → b ≡ true
+not-false true h = refl
+not-false false h = clash h
+
+-- `project`: the distance d at p, with n tests left
+module _ (s : Scene) (eps diag : Float) (left n : ℕ) (p : Vec3) (d a : Float) (el : n ≡ suc left) (ed : d ≡ dist s p) (ea : a ≡ abs d) where
+  pub project-near : lt a eps ≡ true → confirmed s eps p ≡ projectFrom s eps diag n p
+  unfolding projectFrom
+  project-near g = rw (el, ← ed, ← ea, g)
+
+  pub project-lost : lt a eps ≡ false → finite d ≡ false → Off ≡ projectFrom s eps diag n p
+  unfolding projectFrom
+  project-lost g f = rw (el, ← ed, ← ea, g, f)
+
+  pub project-far : lt a eps ≡ false → finite d ≡ true → lt diag a ≡ true → Off ≡ projectFrom s eps diag n p
+  unfolding projectFrom
+  project-far g f b = rw (el, ← ed, ← ea, g, f, b)
+
+  pub project-on : lt a eps ≡ false → finite d ≡ true → lt diag a ≡ false → (q : Vec3) → q ≡ minus p (scaled (normal s p) d)
+      → projectFrom s eps diag n p ≡ projectFrom s eps diag left q
+  unfolding projectFrom moved
+  project-on g f b q e = rw (el, ← ed, ← ea, g, f, b, ← e)
+
+pub project-end : (s : Scene) (eps diag : Float) (p : Vec3) → Off ≡ projectFrom s eps diag 0 p
+unfolding projectFrom
+project-end s eps diag p = refl

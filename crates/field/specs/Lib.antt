@@ -1,0 +1,4 @@
+-- The definitions that the contracts of `field` cite.
+pub mod Nearest
+pub mod Gradient
+pub mod Projection

@@ -1,0 +1,104 @@
+// A point moved onto the surface.
+use crate::Projected;
+use crate::gradient::normal;
+use crate::nearest::dist;
+use vector::Vec3;
+ghost use mathlib.Core.Path.{_≡_};
+ghost use Rattle.tables.specs.Tables.{sceneIn};
+ghost use Rattle.field.specs.Projection.{confirmed, project};
+
+// p moved onto the surface, where its distance falls below eps within ten tests; none where it does
+// not, where the distance is not finite, or where it is beyond diag.
+pub fn project(
+    prims: usize,
+    planes: usize,
+    objects: usize,
+    kinds: &[u32],
+    lengths: &[f32],
+    plane_parts: &[u32],
+    object_parts: &[u32],
+    p: Vec3,
+    eps: f32,
+    diag: f32,
+) -> Projected
+    ensures { λ r. ⌜ r ≡ project (sceneIn prims planes objects kinds lengths «plane_parts» «object_parts») p eps diag ⌝ }
+{
+    let mut q = p;
+    let mut i: usize = 0;
+    while i < 10 {
+        let d = dist(
+            prims,
+            planes,
+            objects,
+            kinds,
+            lengths,
+            plane_parts,
+            object_parts,
+            q,
+        );
+        let a = float::abs(d);
+        if a < eps {
+            return confirmed(
+                prims,
+                planes,
+                objects,
+                kinds,
+                lengths,
+                plane_parts,
+                object_parts,
+                q,
+                eps,
+            );
+        }
+        if !float::is_finite(d) {
+            return Projected::None;
+        }
+        if a > diag {
+            return Projected::None;
+        }
+        q = q.minus(normal(
+            prims,
+            planes,
+            objects,
+            kinds,
+            lengths,
+            plane_parts,
+            object_parts,
+            q,
+        ).scaled(d));
+        i += 1;
+    }
+    Projected::None
+}
+
+// The point, unless its distance is eps or more after all.
+fn confirmed(
+    prims: usize,
+    planes: usize,
+    objects: usize,
+    kinds: &[u32],
+    lengths: &[f32],
+    plane_parts: &[u32],
+    object_parts: &[u32],
+    p: Vec3,
+    eps: f32,
+) -> Projected
+    ensures { λ r. ⌜ r ≡ confirmed (sceneIn prims planes objects kinds lengths «plane_parts» «object_parts») eps p ⌝ }
+{
+    if float::abs(dist(
+        prims,
+        planes,
+        objects,
+        kinds,
+        lengths,
+        plane_parts,
+        object_parts,
+        p,
+    ))
+        >= eps
+    {
+        Projected::None
+    } else {
+        Projected::On(p)
+    }
+}

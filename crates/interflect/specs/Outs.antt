@@ -1,0 +1,76 @@
+-- The C interface: document 01, 'Refused calls'. A vector is three floats, and the numbers of an answer are written through references; what those hold, as a function is called
+-- and as it returns, is read here as the struct that the answer has. Definitions only.
+use Prim.Native.Nat.{ℕ}
+use denote.Ref.{RefT, now}
+use denote.Triple.Both.{Both}
+use lib.Ieee.{Float}
+use Rattle.vector.specs.declared.Vec3.{Vec3}
+use Rattle.vector.specs.Vector.{vec}
+use Rattle.scene.specs.declared.Closure.{Closure}
+use Rattle.field.specs.declared.DistHit.{DistHit}
+use Rattle.scene.specs.declared.Hit.{Hit}
+use Rattle.scene.specs.declared.Shadow.{Shadow}
+
+-- a value at a function's two moments, entry and exit
+abbrev pub Moments : Type 0 → Type 0
+Moments X = Both X X
+
+-- a number that is written through a reference
+abbrev pub Out : Type 0 → Type 0
+Out X = Moments (RefT X)
+
+-- what the outs of a ray hold: hit is 1 or 0, at is where the scene was met, evals how many distances were evaluated
+pub record TraceOut : Type 0 where
+  pub hit : ℕ
+  pub at : Hit
+  pub evals : ℕ
+
+-- a distance and a material
+abbrev pub distOuts : Out Float → Out ℕ → Moments DistHit
+distOuts d mat =
+    record {
+      entry = record { d = now (d .entry); mat = now (mat .entry) };
+      exit = record { d = now (d .exit); mat = now (mat .exit) };
+    }
+
+-- a vector
+abbrev pub vecOuts : Out Float → Out Float → Out Float → Moments Vec3
+vecOuts x y z =
+    record {
+      entry = vec (now (x .entry)) (now (y .entry)) (now (z .entry));
+      exit = vec (now (x .exit)) (now (y .exit)) (now (z .exit));
+    }
+
+-- a hit: how far along, the point, the normal and the material
+abbrev pub hitOuts : Out Float → Out Float → Out Float → Out Float → Out Float → Out Float → Out Float → Out ℕ → Moments Hit
+hitOuts t px py pz nx ny nz mat =
+    let p = vecOuts px py pz in
+    let n = vecOuts nx ny nz in
+    record {
+      entry = record { t = now (t .entry); p = p .entry; n = n .entry; mat = now (mat .entry) };
+      exit = record { t = now (t .exit); p = p .exit; n = n .exit; mat = now (mat .exit) };
+    }
+
+-- whether something was hit, the hit, and how many distances were evaluated
+abbrev pub traceOuts : Out ℕ → Moments Hit → Out ℕ → Moments TraceOut
+traceOuts hit h evals =
+    record {
+      entry = record { hit = now (hit .entry); at = h .entry; evals = now (evals .entry) };
+      exit = record { hit = now (hit .exit); at = h .exit; evals = now (evals .exit) };
+    }
+
+-- how much of a light is seen, and how many distances were evaluated
+abbrev pub shadowOuts : Out Float → Out ℕ → Moments Shadow
+shadowOuts visibility evals =
+    record {
+      entry = record { visibility = now (visibility .entry); evals = now (evals .entry) };
+      exit = record { visibility = now (visibility .exit); evals = now (evals .exit) };
+    }
+
+-- the open part, and how many distances were evaluated
+abbrev pub closureOuts : Out Float → Out ℕ → Moments Closure
+closureOuts sky evals =
+    record {
+      entry = record { sky = now (sky .entry); evals = now (evals .entry) };
+      exit = record { sky = now (sky .exit); evals = now (evals .exit) };
+    }

@@ -1,0 +1,3 @@
+-- What the definitions say.
+pub mod Ends
+pub mod Readings
