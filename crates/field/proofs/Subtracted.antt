@@ -1,5 +1,5 @@
 -- A part's distance from its numbers. Assumes nothing.
-use mathlib.Core.Path.{_≡_, ap, _∙_}
+use mathlib.Core.Path.{_≡_, ap}
 use Prim.Native.Nat.{ℕ, _+_}
 use lib.Ieee.{Float, neg}
 use Rattle.float.specs.Order.{greater}

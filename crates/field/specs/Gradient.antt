@@ -5,7 +5,7 @@ use Rattle.float.specs.Arithmetic.{0f, 1f}
 use Rattle.vector.specs.declared.Vec3.{Vec3}
 use Rattle.vector.specs.Vector.{vec, zeroVec, plus, scaled, over, lengthOf}
 use Rattle.tables.specs.Tables.{Scene}
-use Rattle.field.specs.Nearest.{dist, distMat}
+use Rattle.field.specs.Nearest.{dist}
 
 -- k times the distance at p + k × 0.0005
 unfoldable pub tap : Scene → Vec3 → Vec3 → Vec3

@@ -9,7 +9,7 @@ use Rattle.vector.specs.Vector.{minus, scaled}
 use Rattle.field.specs.declared.Projected.{Projected}
 use Rattle.field.specs.declared.Projected.the-variants.{On, None}
 use Rattle.tables.specs.Tables.{Scene}
-use Rattle.field.specs.Nearest.{dist, distMat}
+use Rattle.field.specs.Nearest.{dist}
 use Rattle.field.specs.Gradient.{normal}
 
 -- the second test, of the point found: its distance is not eps or more

@@ -5,7 +5,7 @@ use mathlib.Core.Logic.{⊎-elim}
 use Prim.Native.Nat.{ℕ, zero, suc, _+_, _*_, _<_}
 use native.Mathlib.Nat.{eq-or-lt-of-le}
 use native.Mathlib.Omega.{arith}
-use lib.Ieee.{binary32, ofBits, ofInt, add, sub, mul, div, isNan, lt}
+use lib.Ieee.{ofBits, ofInt, add, sub, mul, div, isNan, lt}
 use lib.ListN.{getD, drop}
 use Rattle.float.specs.Order.{greater}
 use Rattle.float.specs.Root.{squareRoot}

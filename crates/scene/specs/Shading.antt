@@ -10,7 +10,7 @@ use Rattle.vector.specs.declared.Vec3.{Vec3}
 use Rattle.scene.specs.declared.Approach.{Approach}
 use Rattle.scene.specs.declared.Shadow.{Shadow}
 use Rattle.tables.specs.Tables.{Scene}
-use Rattle.field.specs.Nearest.{dist, distMat}
+use Rattle.field.specs.Nearest.{dist}
 use Rattle.scene.specs.Marching.{along}
 
 -- the approach by the correction: y back along the ray, d from the surface there

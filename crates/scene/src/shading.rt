@@ -8,7 +8,7 @@ use vector::Vec3;
 ghost use mathlib.Core.Path.{_≡_};
 ghost use Prim.Native.Nat.{_+_, _<_};
 ghost use Rattle.tables.specs.Tables.{sceneIn};
-ghost use Rattle.scene.specs.Shading.{closestApproach, approach, lowered, onward, lit, softShadow};
+ghost use Rattle.scene.specs.Shading.{approach, lowered, onward, softShadow};
 
 // How much of a light of tightness k is seen along the ray between tmin and tmax.
 pub fn soft_shadow(

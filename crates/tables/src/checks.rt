@@ -16,7 +16,6 @@ use sdf::Shape;
 use vector::Vec3;
 ghost use mathlib.Core.Path.{_≡_};
 ghost use Rattle.accept.specs.Every.{every};
-ghost use Rattle.accept.specs.Tables.{numberAt};
 ghost use Rattle.tables.specs.Tables.{sceneIn, partAt};
 ghost use Rattle.tables.specs.Checks.{countsWithin, tablesHold, size, sizes, shapeWithin, primWithin, shapesWithin};
 ghost use Rattle.tables.specs.Checks.{partFits, partsFit, refusal};
