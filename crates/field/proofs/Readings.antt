@@ -18,7 +18,7 @@ use Rattle.field.specs.declared.DistHit.{DistHit}
 use Rattle.field.specs.declared.Projected.{Projected}
 use Rattle.field.specs.declared.Projected.the-variants.{On, None}
 use Rattle.field.specs.Nearest.{partDist, nearer, nearest, far, distMat, dist}
-use Rattle.field.specs.Gradient.{tap, unitOrY, normal}
+use Rattle.field.specs.Gradient.{tap, corner, unitOrY, normal}
 use Rattle.field.specs.Projection.{confirmed, moved, projectFrom, project}
 use Rattle.field.proofs.Chosen.{chosen}
 
@@ -110,5 +110,5 @@ module _ (s : Scene) (no-planes : s .planes ≡ 0) (no-objects : s .objects ≡ 
 
   -- the normal is 0, NaN, 0 at every point
   pub empty-normal : (p : Vec3) → normal s p ≡ vec 0f nan 0f
-  unfolding normal
+  unfolding normal corner fold
   empty-normal p = alike joined (empty-tap p corner-a) (empty-tap p corner-b) (empty-tap p corner-c) (empty-tap p corner-d) ∙ overflow

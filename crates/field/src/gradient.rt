@@ -4,7 +4,7 @@ use vector::Vec3;
 ghost use mathlib.Core.Path.{_≡_};
 ghost use Rattle.vector.specs.Vector.{vec};
 ghost use Rattle.tables.specs.Tables.{sceneIn};
-ghost use Rattle.field.specs.Gradient.{tap, unitOrY, normal};
+ghost use Rattle.field.specs.Gradient.{tap, corner, unitOrY, normal};
 
 // The normal at p, from four distances round it; Y where these say nothing.
 pub fn normal(
@@ -19,51 +19,23 @@ pub fn normal(
 ) -> Vec3
     ensures { λ r. ⌜ r ≡ normal (sceneIn prims planes objects kinds lengths «plane_parts» «object_parts») p ⌝ }
 {
-    let a = tap(
-        prims,
-        planes,
-        objects,
-        kinds,
-        lengths,
-        plane_parts,
-        object_parts,
-        p,
-        vec(1.0, -1.0, -1.0),
-    );
-    let b = tap(
-        prims,
-        planes,
-        objects,
-        kinds,
-        lengths,
-        plane_parts,
-        object_parts,
-        p,
-        vec(-1.0, -1.0, 1.0),
-    );
-    let c = tap(
-        prims,
-        planes,
-        objects,
-        kinds,
-        lengths,
-        plane_parts,
-        object_parts,
-        p,
-        vec(-1.0, 1.0, -1.0),
-    );
-    let d = tap(
-        prims,
-        planes,
-        objects,
-        kinds,
-        lengths,
-        plane_parts,
-        object_parts,
-        p,
-        vec(1.0, 1.0, 1.0),
-    );
-    unit_or_y(Vec3::zero().plus(a).plus(b).plus(c).plus(d))
+    let mut n = Vec3::zero();
+    let mut i = 0;
+    while i < 4 {
+        n = n.plus(tap(
+            prims,
+            planes,
+            objects,
+            kinds,
+            lengths,
+            plane_parts,
+            object_parts,
+            p,
+            corner(i),
+        ));
+        i += 1;
+    }
+    unit_or_y(n)
 }
 
 // k times the distance a little way off along k.
@@ -101,6 +73,18 @@ fn unit_or_y(n: Vec3) -> Vec3
         n.over(l)
     } else {
         vec(0.0, 1.0, 0.0)
+    }
+}
+
+// The corner number i of the four that are tapped.
+fn corner(i: usize) -> Vec3
+    ensures { λ r. ⌜ r ≡ corner i ⌝ }
+{
+    match i {
+        0 => vec(1.0, -1.0, -1.0),
+        1 => vec(-1.0, -1.0, 1.0),
+        2 => vec(-1.0, 1.0, -1.0),
+        _ => vec(1.0, 1.0, 1.0),
     }
 }
 

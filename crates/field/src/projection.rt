@@ -4,7 +4,9 @@ use crate::gradient::normal;
 use crate::nearest::dist;
 use vector::Vec3;
 ghost use mathlib.Core.Path.{_≡_};
+ghost use Rattle.vector.specs.Vector.{minus, scaled};
 ghost use Rattle.tables.specs.Tables.{sceneIn};
+ghost use Rattle.field.specs.Gradient.{normal};
 ghost use Rattle.field.specs.Projection.{confirmed, project};
 
 // p moved onto the surface, where its distance falls below eps within ten tests; none where it does
@@ -56,7 +58,7 @@ pub fn project(
         if a > diag {
             return Projected::None;
         }
-        q = q.minus(normal(
+        q = moved(
             prims,
             planes,
             objects,
@@ -65,7 +67,8 @@ pub fn project(
             plane_parts,
             object_parts,
             q,
-        ).scaled(d));
+            d,
+        );
         i += 1;
     }
     Projected::None
@@ -101,4 +104,30 @@ fn confirmed(
     } else {
         Projected::On(p)
     }
+}
+
+// p moved against the normal there by the distance d.
+fn moved(
+    prims: usize,
+    planes: usize,
+    objects: usize,
+    kinds: &[u32],
+    lengths: &[f32],
+    plane_parts: &[u32],
+    object_parts: &[u32],
+    p: Vec3,
+    d: f32,
+) -> Vec3
+    ensures { λ r. ⌜ r ≡ minus p (scaled (normal (sceneIn prims planes objects kinds lengths «plane_parts» «object_parts») p) d) ⌝ }
+{
+    p.minus(normal(
+        prims,
+        planes,
+        objects,
+        kinds,
+        lengths,
+        plane_parts,
+        object_parts,
+        p,
+    ).scaled(d))
 }

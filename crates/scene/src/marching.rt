@@ -3,6 +3,7 @@ use crate::Found;
 use crate::Hit;
 use crate::March;
 use crate::Traced;
+use field::DistHit;
 use field::dist_mat;
 use field::normal;
 use vector::Vec3;
@@ -10,6 +11,8 @@ ghost use mathlib.Core.Path.{_≡_};
 ghost use Prim.Native.Nat.{_+_, _<_};
 ghost use Rattle.float.specs.Arithmetic.{_+f_};
 ghost use Rattle.tables.specs.Tables.{sceneIn};
+ghost use Rattle.field.specs.Gradient.{normal};
+ghost use Rattle.scene.specs.declared.Found.the-variants.{At};
 ghost use Rattle.scene.specs.Marching.{along, tolerance, trace};
 
 // What the ray meets first: it is sampled at tmin, then on by each distance, until a distance is
@@ -43,7 +46,7 @@ pub fn trace(
             p,
         );
         if h.d < tolerance(m.t) {
-            let n = normal(
+            return hit(
                 prims,
                 planes,
                 objects,
@@ -51,17 +54,10 @@ pub fn trace(
                 lengths,
                 plane_parts,
                 object_parts,
+                m,
                 p,
+                h,
             );
-            return Traced {
-                found: Found::At(Hit {
-                    t: m.t,
-                    p: p,
-                    n: n,
-                    mat: h.mat,
-                }),
-                evals: m.steps + 5,
-            };
         }
         m = m.ahead(h.d);
         if m.t > tmax {
@@ -71,6 +67,43 @@ pub fn trace(
     Traced {
         found: Found::None,
         evals: m.steps,
+    }
+}
+
+// The hit at p of a ray whose cursor is m, where h is what is nearest: its sample and the four
+// taps of the normal are counted.
+fn hit(
+    prims: usize,
+    planes: usize,
+    objects: usize,
+    kinds: &[u32],
+    lengths: &[f32],
+    plane_parts: &[u32],
+    object_parts: &[u32],
+    m: March,
+    p: Vec3,
+    h: DistHit,
+) -> Traced
+    requires { ⌜ m .steps < 128 ⌝ }
+    ensures { λ r. ⌜ r ≡ record { found = At (record { t = m .t; p = p; n = normal (sceneIn prims planes objects kinds lengths «plane_parts» «object_parts») p; mat = h .mat }); evals = m .steps + 5 } ⌝ }
+{
+    Traced {
+        found: Found::At(Hit {
+            t: m.t,
+            p: p,
+            n: normal(
+                prims,
+                planes,
+                objects,
+                kinds,
+                lengths,
+                plane_parts,
+                object_parts,
+                p,
+            ),
+            mat: h.mat,
+        }),
+        evals: m.steps + 5,
     }
 }
 

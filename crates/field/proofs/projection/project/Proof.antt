@@ -44,11 +44,11 @@ returns-3 c =
 
 loop-again : tie.Need-loop-again Inv-loop μ-loop
 loop-again c =
-    let d = c .before .before .before .before .before .before .before .before in
+    let d = c .before .before .before .before .before .before in
     let lp = d .before .before in (
       omega (arith, d .before, lp),
       rw (lp .loop .inv .1)
-          (project-on _ _ _ (10 - (lp .loop .i + 1)) _ _ _ _ (omega (arith, d .before, lp)) (d .dist .ensures) (c .before .before .before .before .before .before .before .abs .ensures) (c .before .before .before .before .before .before .if1 .left) (sym (c .before .before .before .before .before .is-finite .ensures) ∙ not-false _ (c .before .before .before .before .if2 .left)) (c .before .before .before .if3 .left) _ (rw (c .minus .ensures, c .before .scaled .ensures, c .before .before .normal .ensures))),
+          (project-on _ _ _ (10 - (lp .loop .i + 1)) _ _ _ _ (omega (arith, d .before, lp)) (d .dist .ensures) (c .before .before .before .before .before .abs .ensures) (c .before .before .before .before .if1 .left) (sym (c .before .before .before .is-finite .ensures) ∙ not-false _ (c .before .before .if2 .left)) (c .before .if3 .left) _ (c .moved .ensures)),
     )
 
 returns-4 : tie.Need-returns-4 Inv-loop μ-loop
@@ -58,4 +58,4 @@ returns-4 c =
     rw (lp .loop .inv .1, e) (project-end _ _ _ _)
 
 pub project-spec : {M : Type 1} → statement M
-project-spec = tie.close (tie.spec Inv-loop μ-loop loop-holds (λ c κs. search needs) (λ c κs. search needs) (λ c κs. search needs) returns (λ c κs. search needs) returns-2 returns-3 (λ c κs. search needs) (λ c κs. search needs) (λ c κs. search needs) (λ c. search needs) (λ c. search needs) loop-again returns-4)
+project-spec = tie.close (tie.spec Inv-loop μ-loop loop-holds (λ c κs. search needs) (λ c κs. search needs) (λ c κs. search needs) returns (λ c κs. search needs) returns-2 returns-3 (λ c κs. search needs) (λ c. search needs) (λ c. search needs) loop-again returns-4)

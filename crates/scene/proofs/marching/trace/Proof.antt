@@ -21,15 +21,15 @@ loop-holds : tie.Need-loop-holds Inv-loop μ-loop
 unfolding trace
 loop-holds c = (omega arith, refl)
 
-add-t20 : tie.Need-add-t20 Inv-loop μ-loop
-add-t20 c = omega arith
+hit-requires : tie.Need-hit-requires Inv-loop μ-loop
+hit-requires c κs = omega arith
 
 returns : tie.Need-returns Inv-loop μ-loop
 returns c =
-    let k = c .before .before .before .before in
+    let k = c .before .before .before in
     let lp = k .before .before .before .before .before in
-    rw (lp .loop .inv .1)
-    (trace-hit _ _ _ _ (127 - lp .loop .m .steps) _ _ _ _ _ _ (omega arith) (k .before .before .along .ensures) (k .before .dist-mat .ensures) (k .tolerance .ensures) _ (c .before .normal .ensures) (c .before .before .if2 .taken))
+    rw (c .hit .ensures, lp .loop .inv .1)
+    (trace-hit _ _ _ _ (127 - lp .loop .m .steps) _ _ _ _ _ _ (omega arith) (k .before .before .along .ensures) (k .before .dist-mat .ensures) (k .tolerance .ensures) _ refl (c .before .if2 .taken))
 
 ahead-requires : tie.Need-ahead-requires Inv-loop μ-loop
 ahead-requires c κs = omega arith
@@ -65,4 +65,4 @@ returns-3 c =
     (trace-past _ _ _ _ (127 - lp .loop .m .steps) _ _ _ _ _ _ (omega arith) (k .before .before .along .ensures) (k .before .dist-mat .ensures) (k .tolerance .ensures) _ _ (ap (λ m. m .t) w) (ap (λ m. m .steps) w) (c .before .before .before .if2 .left) (c .if3 .taken))
 
 pub trace-spec : {M : Type 1} → statement M
-trace-spec = tie.close (tie.spec Inv-loop μ-loop loop-holds (λ c κs. search needs) (λ c κs. search needs) (λ c κs. search needs) (λ c κs. search needs) add-t20 returns ahead-requires loop-less loop-again returns-2 returns-3)
+trace-spec = tie.close (tie.spec Inv-loop μ-loop loop-holds (λ c κs. search needs) (λ c κs. search needs) (λ c κs. search needs) hit-requires returns ahead-requires loop-less loop-again returns-2 returns-3)
