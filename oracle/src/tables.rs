@@ -1,5 +1,5 @@
 //! A scene as the port is lent it: three counts, a kind and eight floats a primitive, four numbers a
-//! plane or object. crates/replay_scene has as many places as there are here.
+//! plane or object. crates/stored has as many places as there are here.
 
 use crate::cases::Case;
 use interflect::scene::{open::of_shapes, Scene};

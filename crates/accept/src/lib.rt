@@ -18,3 +18,4 @@ pub use tables::links_ascend;
 pub use tables::numbers_below;
 pub use tables::ranges_contiguous;
 pub use tables::starts_monotone;
+pub use tables::wide;

@@ -145,7 +145,7 @@ fn contiguous(firsts: &[u32], counts: &[u32], n: usize, end: usize) -> bool
 }
 
 // The same number, as an index or a count.
-fn wide(x: u32) -> usize
+pub fn wide(x: u32) -> usize
     ensures { λ r. ⌜ r ≡ x ⌝ }
 {
     x as usize

@@ -17,7 +17,7 @@ use Rattle.tables.specs.Tables.{Scene}
 use Rattle.field.specs.declared.DistHit.{DistHit}
 use Rattle.field.specs.declared.Projected.{Projected}
 use Rattle.field.specs.declared.Projected.the-variants.{On, None}
-use Rattle.field.specs.Nearest.{partDist, nearer, nearest, far, distMat, dist}
+use Rattle.field.specs.Nearest.{partDist, nearer, nearestPart, far, distMat, dist}
 use Rattle.field.specs.Gradient.{tap, corner, unitOrY, normal}
 use Rattle.field.specs.Projection.{confirmed, moved, projectFrom, project}
 use Rattle.field.proofs.Chosen.{chosen}
@@ -100,7 +100,7 @@ overflow = refl
 module _ (s : Scene) (no-planes : s .planes ≡ 0) (no-objects : s .objects ≡ 0) where
   -- nothing is near any point
   pub empty-nearest : (p : Vec3) → distMat s p ≡ far
-  unfolding distMat nearest fold
+  unfolding distMat nearestPart fold
   empty-nearest p = rw (no-planes, no-objects)
 
   -- so each tap is its corner times the greatest f32

@@ -26,8 +26,8 @@ unfoldable pub nearer : DistHit → DistHit → DistHit
 nearer best new = cond (lt (new .d) (best .d)) new best
 
 -- the best of the first n parts and the best so far
-unfoldable pub nearest : (ℕ → Shape) → Vec3 → DistHit → (ℕ → Part) → ℕ → DistHit
-nearest shape p best part n = fold nearer best (λ j. partHit shape p (part j)) n
+unfoldable pub nearestPart : (ℕ → Shape) → Vec3 → DistHit → (ℕ → Part) → ℕ → DistHit
+nearestPart shape p best part n = fold nearer best (λ j. partHit shape p (part j)) n
 
 -- nothing is near: the greatest f32, material 0
 abbrev pub far : DistHit
@@ -35,7 +35,7 @@ far = record { d = ofBits binary32 0x7f7f_ffff; mat = 0 }
 
 -- the nearest of a scene: its planes, then its objects
 unfoldable pub distMat : Scene → Vec3 → DistHit
-distMat s p = nearest (primOf s) p (nearest (primOf s) p far (planeOf s) (s .planes)) (objectOf s) (s .objects)
+distMat s p = nearestPart (primOf s) p (nearestPart (primOf s) p far (planeOf s) (s .planes)) (objectOf s) (s .objects)
 
 -- its distance
 abbrev pub dist : Scene → Vec3 → Float

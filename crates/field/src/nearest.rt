@@ -1,5 +1,6 @@
 // What is nearest to a point.
 use crate::DistHit;
+use accept::wide;
 use tables::Part;
 use tables::part_at;
 use tables::shape_at;
@@ -7,7 +8,7 @@ use vector::Vec3;
 ghost use mathlib.Core.Path.{_≡_};
 ghost use Rattle.sdf.specs.Distance.{dist as shapeDist};
 ghost use Rattle.tables.specs.Tables.{shapeAt, partAt, sceneIn};
-ghost use Rattle.field.specs.Nearest.{partDist, partHit, nearer, nearest, distMat, dist};
+ghost use Rattle.field.specs.Nearest.{partDist, partHit, nearer, nearestPart, distMat, dist};
 
 // The nearest of the scene's planes and objects, the earlier where two are as near; the greatest
 // f32 and material 0 where nothing is nearer than that.
@@ -27,8 +28,8 @@ pub fn dist_mat(
         d: 3.4028235e38,
         mat: 0,
     };
-    let best = nearest(kinds, lengths, plane_parts, planes, p, far);
-    nearest(kinds, lengths, object_parts, objects, p, best)
+    let best = nearest_part(kinds, lengths, plane_parts, planes, p, far);
+    nearest_part(kinds, lengths, object_parts, objects, p, best)
 }
 
 // The distance to what is nearest.
@@ -58,7 +59,7 @@ pub fn dist(
 }
 
 // The nearest of n parts and the best so far.
-fn nearest(
+fn nearest_part(
     kinds: &[u32],
     lengths: &[f32],
     parts: &[u32],
@@ -66,7 +67,7 @@ fn nearest(
     p: Vec3,
     first: DistHit,
 ) -> DistHit
-    ensures { λ r. ⌜ r ≡ nearest (shapeAt (now (kinds .entry)) (now (lengths .entry))) p first (partAt (now (parts .entry))) n ⌝ }
+    ensures { λ r. ⌜ r ≡ nearestPart (shapeAt (now (kinds .entry)) (now (lengths .entry))) p first (partAt (now (parts .entry))) n ⌝ }
 {
     let mut best = first;
     let mut j = 0;
@@ -115,11 +116,4 @@ fn prim_dist(kinds: &[u32], lengths: &[f32], k: usize, p: Vec3) -> f32
     ensures { λ r. ⌜ r ≡ shapeDist (shapeAt (now (kinds .entry)) (now (lengths .entry)) k) p ⌝ }
 {
     shape_at(kinds, lengths, k).dist(p)
-}
-
-// The same number, as an index or a count.
-fn wide(x: u32) -> usize
-    ensures { λ r. ⌜ r ≡ x ⌝ }
-{
-    x as usize
 }

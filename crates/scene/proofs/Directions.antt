@@ -11,8 +11,8 @@ use Rattle.float.specs.Order.{greater}
 use Rattle.float.specs.Root.{squareRoot}
 use Rattle.vector.specs.declared.Vec3.{Vec3}
 use Rattle.vector.specs.Vector.{vec}
-use Rattle.scene.specs.Halton.{radicalInverse, inverseFrom}
-use Rattle.scene.specs.Directions.{entry, direction}
+use Rattle.vector.specs.Halton.{radicalInverse, inverseFrom}
+use Rattle.scene.specs.Directions.{floatOf, direction}
 
 -- the words of the table: x, y, z each
 abbrev pub words : List ℕ
@@ -29,7 +29,7 @@ words =
 
 -- three words from place 3 k on
 abbrev pub tabled : ℕ → Vec3
-tabled k = vec (entry words (3 * k)) (entry words (3 * k + 1)) (entry words (3 * k + 2))
+tabled k = vec (floatOf words (3 * k)) (floatOf words (3 * k + 1)) (floatOf words (3 * k + 2))
 
 -- f at n - 1, .. , 1, 0
 abbrev firsts : {A : Type 0} → (ℕ → A) → ℕ → List A

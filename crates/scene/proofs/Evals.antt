@@ -14,7 +14,7 @@ use Rattle.tables.specs.Tables.{Scene}
 use Rattle.field.proofs.Chosen.{chosen}
 use Rattle.field.specs.Nearest.{dist}
 use Rattle.scene.specs.Marching.{along, tolerance, traceFrom, trace}
-use Rattle.scene.specs.Shading.{lowered, onward, lit, shadowFrom, softShadow}
+use Rattle.scene.specs.Shading.{lowered, onward, visible, shadowFrom, softShadow}
 use Rattle.scene.specs.Opening.{ray, missedBy, counted, openings, hemisphereClosure}
 
 -- one evaluation a sample, and four more for the normal of a hit
@@ -35,7 +35,7 @@ trace-evals s ro rd tmin tmax = trace-from s ro rd tmax 128 0 tmin
 -- one evaluation a sample
 shadow-from : (s : Scene) (ro rd : Vec3) (tmax k : Float) (left made : ℕ) (t ph res : Float)
     → shadowFrom s ro rd tmax k left made t ph res .evals ≤ made + left
-unfolding shadowFrom lit
+unfolding shadowFrom visible
 shadow-from s ro rd tmax k zero made t ph res = omega arith
 shadow-from s ro rd tmax k (suc left) made t ph res =
     let h = dist s (along ro rd t) in

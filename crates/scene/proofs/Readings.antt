@@ -13,16 +13,16 @@ use Rattle.vector.specs.Vector.{normalize}
 use Rattle.vector.specs.Tangent.{frame}
 use Rattle.vector.specs.Fold.{fold}
 use Rattle.tables.specs.Tables.{Scene}
-use Rattle.field.specs.Nearest.{nearest, far, distMat, dist}
+use Rattle.field.specs.Nearest.{nearestPart, far, distMat, dist}
 use Rattle.field.proofs.Chosen.{chosen}
 use Rattle.scene.specs.declared.Found.the-variants.{None}
 use Rattle.scene.specs.declared.Openings.{Openings}
 use Rattle.scene.specs.declared.Traced.{Traced}
-use Rattle.scene.specs.Halton.{whole, radicalInverse, inverseFrom}
+use Rattle.vector.specs.Halton.{ofWhole, radicalInverse, inverseFrom}
 use Rattle.scene.specs.Marching.{along, tolerance, traceFrom, trace}
-use Rattle.scene.specs.Shading.{approach, lit, softShadow}
+use Rattle.scene.specs.Shading.{approach, visible, softShadow}
 use Rattle.scene.specs.Directions.{direction}
-use Rattle.scene.specs.Opening.{turned, lifted, ray, missedBy, counted, openings, hemisphereClosure}
+use Rattle.scene.specs.Opening.{inFrame, rayStart, ray, missedBy, counted, openings, hemisphereClosure}
 use Rattle.scene.proofs.Turns.{shadow-past}
 
 -- a march never counts less than it has
@@ -50,8 +50,8 @@ unfolding trace
 trace-samples s ro rd tmin tmax = first-made s ro rd tmax 127 tmin
 
 -- the visibility before the first sample, from 0 to 1
-all-seen : lit 1f 0 ≡ record { visibility = 1f; evals = 0 }
-unfolding lit clamp ofBits lt
+all-seen : visible 1f 0 ≡ record { visibility = 1f; evals = 0 }
+unfolding visible clamp ofBits lt
 all-seen = refl
 
 -- where tmin is not below tmax, NaN at either end too, all is seen, with no evaluation
@@ -81,7 +81,7 @@ unfolding counted missedBy
 one-more o r m p q = rw (p, q, add-one m)
 
 -- 16 of 16
-all-open : whole 16 /f whole 16 ≡ 1f
+all-open : ofWhole 16 /f ofWhole 16 ≡ 1f
 unfolding ofBits ofInt div
 all-open = refl
 
@@ -89,13 +89,13 @@ module _ (s : Scene) (no-planes : s .planes ≡ 0) (no-objects : s .objects ≡ 
   -- a march from 0.001 that is to end below the greatest f32 ends at its first sample
   empty-from : (ro rd : Vec3) (tmax : Float) (left : ℕ) → lt tmax (far .d) ≡ true
       → traceFrom s ro rd tmax (suc left) 0 (ofBits binary32 0x3a83_126f) ≡ record { found = None; evals = 1 }
-  unfolding traceFrom nearest fold lt distMat
+  unfolding traceFrom nearestPart fold lt distMat
   empty-from ro rd tmax left h = rw (no-planes, no-objects, not-near, no-farther, h)
 
   -- so does each ray of the closure
   empty-ray : (p n : Vec3) (tmax : Float) (k : ℕ) → lt tmax (far .d) ≡ true → ray s p n tmax k ≡ record { found = None; evals = 1 }
   unfolding ray trace
-  empty-ray p n tmax k h = empty-from (lifted p n) (normalize (turned (frame n) n (direction k))) tmax 127 h
+  empty-ray p n tmax k h = empty-from (rayStart p n) (normalize (inFrame (frame n) n (direction k))) tmax 127 h
 
   -- and m of them
   empty-rays : (p n : Vec3) (tmax : Float) (m : ℕ) → lt tmax (far .d) ≡ true → openings s p n tmax m ≡ record { missed = m; evals = m }
@@ -107,7 +107,7 @@ module _ (s : Scene) (no-planes : s .planes ≡ 0) (no-objects : s .objects ≡ 
   pub empty-open : (p n : Vec3) (tmax : Float) → lt tmax (far .d) ≡ true → hemisphereClosure s p n tmax ≡ record { sky = 1f; evals = 16 }
   unfolding hemisphereClosure
   empty-open p n tmax h =
-      ap (λ (o : Openings). record { sky = whole (o .missed) /f whole 16; evals = o .evals }) (empty-rays p n tmax 16 h)
+      ap (λ (o : Openings). record { sky = ofWhole (o .missed) /f ofWhole 16; evals = o .evals }) (empty-rays p n tmax 16 h)
       ∙ ap (λ (x : Float). record { sky = x; evals = 16 }) all-open
 
 -- the radical inverses of 1, 2, 3 and 6 in base 2: 0.5, 0.25, 0.75 and 0.375

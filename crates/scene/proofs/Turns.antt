@@ -11,7 +11,7 @@ use Rattle.tables.specs.Tables.{Scene}
 use Rattle.field.specs.Nearest.{distMat, dist}
 use Rattle.field.specs.Gradient.{normal}
 use Rattle.scene.specs.Marching.{along, tolerance, hitAt, traceFrom}
-use Rattle.scene.specs.Shading.{lowered, onward, dark, lit, shadowFrom}
+use Rattle.scene.specs.Shading.{lowered, onward, occluded, visible, shadowFrom}
 
 -- `trace`: a sample h at p, with n samples left
 module _ (s : Scene) (ro rd : Vec3) (tmax : Float) (left made n : ℕ) (t : Float) (p : Vec3) (h : DistHit) (x : Float)
@@ -38,26 +38,26 @@ trace-end s ro rd tmax made t = refl
 -- `soft_shadow`: a sample h at p, with n samples left
 module _ (s : Scene) (ro rd : Vec3) (tmax k : Float) (left made n : ℕ) (t ph res : Float) (p : Vec3) (h : Float)
     (el : n ≡ suc left) (go : lt t tmax ≡ true) (ep : p ≡ along ro rd t) (eh : h ≡ dist s p) where
-  pub shadow-touch : lt h (ofBits binary32 0x38d1_b717) ≡ true → dark (made + 1) ≡ shadowFrom s ro rd tmax k n made t ph res
+  pub shadow-touch : lt h (ofBits binary32 0x38d1_b717) ≡ true → occluded (made + 1) ≡ shadowFrom s ro rd tmax k n made t ph res
   unfolding shadowFrom
   shadow-touch g = rw (el, go, ← ep, ← eh, g)
 
   module _ (r : Float) (er : r ≡ lowered res k h ph t) (g : lt h (ofBits binary32 0x38d1_b717) ≡ false) where
-    pub shadow-dark : lt r (ofBits binary32 0x3a83_126f) ≡ true → dark (made + 1) ≡ shadowFrom s ro rd tmax k n made t ph res
+    pub shadow-occluded : lt r (ofBits binary32 0x3a83_126f) ≡ true → occluded (made + 1) ≡ shadowFrom s ro rd tmax k n made t ph res
     unfolding shadowFrom
-    shadow-dark b = rw (el, go, ← ep, ← eh, g, ← er, b)
+    shadow-occluded b = rw (el, go, ← ep, ← eh, g, ← er, b)
 
     pub shadow-on : lt r (ofBits binary32 0x3a83_126f) ≡ false
         → shadowFrom s ro rd tmax k n made t ph res ≡ shadowFrom s ro rd tmax k left (made + 1) (onward t h) h r
     unfolding shadowFrom
     shadow-on b = rw (el, go, ← ep, ← eh, g, ← er, b)
 
-pub shadow-end : (s : Scene) (ro rd : Vec3) (tmax k : Float) (made : ℕ) (t ph res : Float) → lit res made ≡ shadowFrom s ro rd tmax k 0 made t ph res
+pub shadow-end : (s : Scene) (ro rd : Vec3) (tmax k : Float) (made : ℕ) (t ph res : Float) → visible res made ≡ shadowFrom s ro rd tmax k 0 made t ph res
 unfolding shadowFrom
 shadow-end s ro rd tmax k made t ph res = refl
 
 pub shadow-past : (s : Scene) (ro rd : Vec3) (tmax k : Float) (n made : ℕ) (t ph res : Float)
-    → lt t tmax ≡ false → lit res made ≡ shadowFrom s ro rd tmax k n made t ph res
+    → lt t tmax ≡ false → visible res made ≡ shadowFrom s ro rd tmax k n made t ph res
 unfolding shadowFrom
 shadow-past s ro rd tmax k zero made t ph res h = refl
 shadow-past s ro rd tmax k (suc n) made t ph res h = rw h

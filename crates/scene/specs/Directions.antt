@@ -9,7 +9,7 @@ use Rattle.float.specs.Order.{greater}
 use Rattle.float.specs.Root.{squareRoot}
 use Rattle.vector.specs.declared.Vec3.{Vec3}
 use Rattle.vector.specs.Vector.{vec}
-use Rattle.scene.specs.Halton.{radicalInverse}
+use Rattle.vector.specs.Halton.{radicalInverse}
 
 -- the cosines of 2 π × the radical inverse of 1, 2, .. , 16 in base 3, by their bits
 abbrev pub cosines : List ℕ
@@ -25,13 +25,13 @@ sines =
     ∷ 0x3e6c_2693 ∷ 0x3f3a_3528 ∷ 0xbf75_3ecd ∷ 0x3f4d_57f3 ∷ 0x3ded_c1e6 ∷ 0xbf6b_1034 ∷ 0x3f7f_911f ∷ 0xbf0c_ac9f
     ∷ []
 
--- entry k of a table of bits
-abbrev pub entry : List ℕ → ℕ → Float
-entry l k = ofBits binary32 (getD l k 0)
+-- the float whose bits stand at place k of a table
+abbrev pub floatOf : List ℕ → ℕ → Float
+floatOf l k = ofBits binary32 (getD l k 0)
 
 -- with u the radical inverse of k + 1 in base 2: root of u times the cosine, root of u times the sine, root of 1 - u
 unfoldable pub direction : ℕ → Vec3
 direction k =
     let u = radicalInverse 2 (k + 1) in
     let r = squareRoot u in
-    vec (r *f entry cosines k) (r *f entry sines k) (squareRoot (greater (1f -f u) 0f))
+    vec (r *f floatOf cosines k) (r *f floatOf sines k) (squareRoot (greater (1f -f u) 0f))

@@ -1,7 +1,6 @@
 -- The definitions that the contracts of `scene` cite.
 pub mod Marching
 pub mod Shading
-pub mod Halton
 pub mod Directions
 pub mod Opening
 pub mod Answers

@@ -13,25 +13,25 @@ use Rattle.scene.specs.declared.Found.the-variants.{At, None}
 use Rattle.scene.specs.declared.Openings.{Openings}
 use Rattle.scene.specs.declared.Traced.{Traced}
 use Rattle.tables.specs.Tables.{Scene}
-use Rattle.scene.specs.Halton.{whole}
+use Rattle.vector.specs.Halton.{ofWhole}
 use Rattle.scene.specs.Directions.{direction}
 use Rattle.scene.specs.Marching.{trace}
 
 -- d's x along t, y along b and z along n
-unfoldable pub turned : Tangents → Vec3 → Vec3 → Vec3
-turned f n d = plus (plus (scaled (f .t) (d .x)) (scaled (f .b) (d .y))) (scaled n (d .z))
+unfoldable pub inFrame : Tangents → Vec3 → Vec3 → Vec3
+inFrame f n d = plus (plus (scaled (f .t) (d .x)) (scaled (f .b) (d .y))) (scaled n (d .z))
 
 -- 0.001
-abbrev pub lift : Float
-lift = ofBits binary32 0x3a83_126f
+abbrev pub offset : Float
+offset = ofBits binary32 0x3a83_126f
 
 -- the start of the rays: p + n × 0.001
-unfoldable pub lifted : Vec3 → Vec3 → Vec3
-lifted p n = plus p (scaled n lift)
+unfoldable pub rayStart : Vec3 → Vec3 → Vec3
+rayStart p n = plus p (scaled n offset)
 
 -- the ray in direction k, from 0.001 on
 unfoldable pub ray : Scene → Vec3 → Vec3 → Float → ℕ → Traced
-ray s p n tmax k = trace s (lifted p n) (normalize (turned (frame n) n (direction k))) lift tmax
+ray s p n tmax k = trace s (rayStart p n) (normalize (inFrame (frame n) n (direction k))) offset tmax
 
 -- a ray that met nothing counts
 unfoldable pub missedBy : Found → ℕ
@@ -42,7 +42,7 @@ missedBy None = 1
 unfoldable pub counted : Openings → Traced → Openings
 counted o r = record { missed = o .missed + missedBy (r .found); evals = o .evals + r .evals }
 
--- the first n rays
+-- the first m rays
 unfoldable pub openings : Scene → Vec3 → Vec3 → Float → ℕ → Openings
 openings s p n tmax m = fold counted (record { missed = 0; evals = 0 }) (ray s p n tmax) m
 
@@ -50,4 +50,4 @@ openings s p n tmax m = fold counted (record { missed = 0; evals = 0 }) (ray s p
 unfoldable pub hemisphereClosure : Scene → Vec3 → Vec3 → Float → Closure
 hemisphereClosure s p n tmax =
     let o = openings s p n tmax 16 in
-    record { sky = whole (o .missed) /f whole 16; evals = o .evals }
+    record { sky = ofWhole (o .missed) /f ofWhole 16; evals = o .evals }

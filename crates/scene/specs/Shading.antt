@@ -34,23 +34,23 @@ unfoldable pub onward : Float → Float → Float
 onward t h = t +f clamp h (ofBits binary32 0x3bc4_9ba6) (ofBits binary32 0x3df5_c28f)
 
 -- nothing is seen
-abbrev pub dark : ℕ → Shadow
-dark evals = record { visibility = 0f; evals = evals }
+abbrev pub occluded : ℕ → Shadow
+occluded evals = record { visibility = 0f; evals = evals }
 
 -- so much is seen, from 0 to 1
-unfoldable pub lit : Float → ℕ → Shadow
-lit res evals = record { visibility = clamp res 0f 1f; evals = evals }
+unfoldable pub visible : Float → ℕ → Shadow
+visible res evals = record { visibility = clamp res 0f 1f; evals = evals }
 
--- at most `left` samples more, the next at t if that is below tmax, after `made`, the last of them ph: dark where a sample is below 0.0001 or the visibility below 0.001
+-- at most `left` samples more, the next at t if that is below tmax, after `made`, the last of them ph: occluded where a sample is below 0.0001 or the visibility below 0.001
 unfoldable pub shadowFrom : Scene → Vec3 → Vec3 → Float → Float → ℕ → ℕ → Float → Float → Float → Shadow
-shadowFrom s ro rd tmax k zero made t ph res = lit res made
+shadowFrom s ro rd tmax k zero made t ph res = visible res made
 shadowFrom s ro rd tmax k (suc left) made t ph res =
     let h = dist s (along ro rd t) in
     let r = lowered res k h ph t in
     cond (lt t tmax)
-    (cond (lt h (ofBits binary32 0x38d1_b717)) (dark (made + 1))
-    (cond (lt r (ofBits binary32 0x3a83_126f)) (dark (made + 1)) (shadowFrom s ro rd tmax k left (made + 1) (onward t h) h r)))
-    (lit res made)
+    (cond (lt h (ofBits binary32 0x38d1_b717)) (occluded (made + 1))
+    (cond (lt r (ofBits binary32 0x3a83_126f)) (occluded (made + 1)) (shadowFrom s ro rd tmax k left (made + 1) (onward t h) h r)))
+    (visible res made)
 
 -- from tmin on, at most 96 samples; before the first the visibility is 1 and the last sample counts as 1e20
 unfoldable pub softShadow : Scene → Vec3 → Vec3 → Float → Float → Float → Shadow

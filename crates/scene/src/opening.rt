@@ -11,7 +11,7 @@ ghost use mathlib.Core.Path.{_≡_};
 ghost use Prim.Native.Nat.{_*_, _<_, _≤_};
 ghost use Rattle.tables.specs.Tables.{sceneIn};
 ghost use Rattle.scene.specs.Directions.{direction};
-ghost use Rattle.scene.specs.Opening.{turned, ray, counted, openings, hemisphereClosure};
+ghost use Rattle.scene.specs.Opening.{inFrame, ray, counted, openings, hemisphereClosure};
 
 // The bits of the 16 directions: x, y, z each.
 const DIRECTIONS: [u32; 48] = [
@@ -155,7 +155,7 @@ fn ray(
     ensures { λ r. ⌜ r ≡ ray (sceneIn prims planes objects kinds lengths «plane_parts» «object_parts») p n tmax k ⌝ }
 {
     let ro = p.plus(n.scaled(1e-3));
-    let rd = turned(vector::frame(n), n, direction(k)).normalize();
+    let rd = in_frame(vector::frame(n), n, direction(k)).normalize();
     trace(
         prims,
         planes,
@@ -194,8 +194,8 @@ impl Openings {
 }
 
 // d's x along t, y along b and z along n.
-fn turned(f: Tangents, n: Vec3, d: Vec3) -> Vec3
-    ensures { λ r. ⌜ r ≡ turned f n d ⌝ }
+fn in_frame(f: Tangents, n: Vec3, d: Vec3) -> Vec3
+    ensures { λ r. ⌜ r ≡ inFrame f n d ⌝ }
 {
     f.t.scaled(d.x).plus(f.b.scaled(d.y)).plus(n.scaled(d.z))
 }

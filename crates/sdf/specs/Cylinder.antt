@@ -10,7 +10,7 @@ use Rattle.vector.specs.declared.Vec3.{Vec3}
 use Rattle.vector.specs.Vector.{dot, minus, scaled, lengthOf}
 use Rattle.sdf.specs.Axis.{half, tiny}
 
--- x and y are how far p is beyond the side and beyond the caps, times baba; d is the square of the distance times baba twice, below 0 inside
+-- x is how far p is beyond the side, times baba, and y how far beyond the caps, times the length of the axis; d is the square of the distance times baba twice, below 0 inside
 unfoldable pub cylinder : Vec3 → Vec3 → Float → Vec3 → Float
 cylinder a b r p =
     let ba = minus b a in

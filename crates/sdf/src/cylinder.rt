@@ -24,8 +24,8 @@ pub fn cylinder(a: Vec3, b: Vec3, r: f32, p: Vec3) -> f32
     float::signum(d) * float::sqrt(float::abs(d)) / baba
 }
 
-// The square of the distance to the surface, below 0 inside: x and y are the distances beyond the
-// side and beyond the caps, x2 and y2 their squares.
+// The square of the distance to the surface, times baba twice, below 0 inside: x2 and y2 are the
+// squares, so scaled, of how far p is beyond the side and beyond the caps, x and y their signs.
 fn signed_square(x: f32, y: f32, x2: f32, y2: f32) -> f32
     ensures { λ d. ⌜ d ≡ cond (lt (greater x y) 0f) (neg (lesser x2 y2)) (cond (lt 0f x) x2 0f +f cond (lt 0f y) y2 0f) ⌝ }
 {

@@ -6,12 +6,7 @@ use Prim.Native.Nat.{ℕ}
 use Rattle.accept.specs.Refusal.{firstFailed}
 use Rattle.accept.proofs.Refused.{Passed, none-failed}
 use Rattle.tables.specs.Tables.{Scene}
-use Rattle.tables.specs.Checks.{countsWithin, tablesHold, shapesWithin, partsFit, refusal}
-
--- the tests of 2, 4, 5 and 6 with their numbers
-abbrev pub tests : Scene → Bool → List (ℕ × Bool)
-tests s floats =
-    (2, countsWithin (s .prims) (s .planes) (s .objects)) ∷ (4, tablesHold s) ∷ (5, shapesWithin s && floats) ∷ (6, partsFit s) ∷ []
+use Rattle.tables.specs.Checks.{countsWithin, tablesHold, shapesWithin, partsFit, tests, refusal}
 
 -- a call that is not refused passed them all
 pub accepted : (s : Scene) (floats : Bool) → refusal s floats ≡ 0 → Passed (tests s floats)

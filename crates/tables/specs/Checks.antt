@@ -32,22 +32,22 @@ tablesHold s =
     ∷ [])
 
 -- a radius or a half-size: from 0 to 10,000
-abbrev pub size : Float → Bool
-size x = within x 0f maxLength
+abbrev pub sizeWithin : Float → Bool
+sizeWithin x = within x 0f maxLength
 
 -- three half-sizes
-abbrev pub sizes : Vec3 → Bool
-sizes b = conj (size (b .x) ∷ size (b .y) ∷ size (b .z) ∷ [])
+abbrev pub sizesWithin : Vec3 → Bool
+sizesWithin b = conj (sizeWithin (b .x) ∷ sizeWithin (b .y) ∷ sizeWithin (b .z) ∷ [])
 
 -- every float of a shape is in its range
 unfoldable pub shapeWithin : Shape → Bool
-shapeWithin (Sphere c r) = point c && size r
-shapeWithin (RoundBox c b r) = conj (point c ∷ sizes b ∷ size r ∷ [])
+shapeWithin (Sphere c r) = point c && sizeWithin r
+shapeWithin (RoundBox c b r) = conj (point c ∷ sizesWithin b ∷ sizeWithin r ∷ [])
 shapeWithin (Plane n h) = point n && coordinate h
-shapeWithin (Capsule a b r) = conj (point a ∷ point b ∷ size r ∷ [])
-shapeWithin (Torus c major minor) = conj (point c ∷ size major ∷ size minor ∷ [])
-shapeWithin (Cylinder a b r) = conj (point a ∷ point b ∷ size r ∷ [])
-shapeWithin (Cone a b ra rb) = conj (point a ∷ point b ∷ size ra ∷ size rb ∷ [])
+shapeWithin (Capsule a b r) = conj (point a ∷ point b ∷ sizeWithin r ∷ [])
+shapeWithin (Torus c major minor) = conj (point c ∷ sizeWithin major ∷ sizeWithin minor ∷ [])
+shapeWithin (Cylinder a b r) = conj (point a ∷ point b ∷ sizeWithin r ∷ [])
+shapeWithin (Cone a b ra rb) = conj (point a ∷ point b ∷ sizeWithin ra ∷ sizeWithin rb ∷ [])
 
 -- every float that primitive k uses; one of kind over 6 uses none
 unfoldable pub primWithin : List ℕ → List Float → ℕ → Bool
@@ -76,12 +76,11 @@ partsFit s =
     ∷ every (λ j. partFits (s .prims) (s .kinds) false (objectOf s j)) (s .objects)
     ∷ [])
 
--- the number that refuses a call on this scene, 0 if none does; `floats` says whether the call's own floats are in their range
+-- the tests in their order, each with its number; `floats` says whether the call's own floats are in their range
+abbrev pub tests : Scene → Bool → List (ℕ × Bool)
+tests s floats =
+    (2, countsWithin (s .prims) (s .planes) (s .objects)) ∷ (4, tablesHold s) ∷ (5, shapesWithin s && floats) ∷ (6, partsFit s) ∷ []
+
+-- the number that refuses a call on this scene, 0 if none does
 unfoldable pub refusal : Scene → Bool → ℕ
-refusal s floats =
-    firstFailed
-    ((2, countsWithin (s .prims) (s .planes) (s .objects))
-    ∷ (4, tablesHold s)
-    ∷ (5, shapesWithin s && floats)
-    ∷ (6, partsFit s)
-    ∷ [])
+refusal s floats = firstFailed (tests s floats)

@@ -11,13 +11,14 @@ use accept::limits::MAX_LENGTH;
 use accept::numbers_below;
 use accept::point;
 use accept::unless;
+use accept::wide;
 use accept::within;
 use sdf::Shape;
 use vector::Vec3;
 ghost use mathlib.Core.Path.{_≡_};
 ghost use Rattle.accept.specs.Every.{every};
 ghost use Rattle.tables.specs.Tables.{sceneIn, partAt};
-ghost use Rattle.tables.specs.Checks.{countsWithin, tablesHold, size, sizes, shapeWithin, primWithin, shapesWithin};
+ghost use Rattle.tables.specs.Checks.{countsWithin, tablesHold, sizeWithin, sizesWithin, shapeWithin, primWithin, shapesWithin};
 ghost use Rattle.tables.specs.Checks.{partFits, partsFit, refusal};
 
 // The number that refuses a call on this scene, 0 if none does; floats says whether the call's own
@@ -185,28 +186,28 @@ fn shape_within(shape: Shape) -> bool
     ensures { λ r. ⌜ r ≡ shapeWithin shape ⌝ }
 {
     match shape {
-        Shape::Sphere { c, r } => point(c) & size(r),
-        Shape::RoundBox { c, b, r } => point(c) & sizes(b) & size(r),
+        Shape::Sphere { c, r } => point(c) & size_within(r),
+        Shape::RoundBox { c, b, r } => point(c) & sizes_within(b) & size_within(r),
         Shape::Plane { n, h } => point(n) & coordinate(h),
-        Shape::Capsule { a, b, r } => point(a) & point(b) & size(r),
-        Shape::Torus { c, major, minor } => point(c) & size(major) & size(minor),
-        Shape::Cylinder { a, b, r } => point(a) & point(b) & size(r),
-        Shape::Cone { a, b, ra, rb } => point(a) & point(b) & size(ra) & size(rb),
+        Shape::Capsule { a, b, r } => point(a) & point(b) & size_within(r),
+        Shape::Torus { c, major, minor } => point(c) & size_within(major) & size_within(minor),
+        Shape::Cylinder { a, b, r } => point(a) & point(b) & size_within(r),
+        Shape::Cone { a, b, ra, rb } => point(a) & point(b) & size_within(ra) & size_within(rb),
     }
 }
 
 // Whether x serves as a radius or a half-size.
-fn size(x: f32) -> bool
-    ensures { λ r. ⌜ r ≡ size x ⌝ }
+fn size_within(x: f32) -> bool
+    ensures { λ r. ⌜ r ≡ sizeWithin x ⌝ }
 {
     within(x, 0.0, MAX_LENGTH)
 }
 
 // Whether the three floats of b serve as half-sizes.
-fn sizes(b: Vec3) -> bool
-    ensures { λ r. ⌜ r ≡ sizes b ⌝ }
+fn sizes_within(b: Vec3) -> bool
+    ensures { λ r. ⌜ r ≡ sizesWithin b ⌝ }
 {
-    size(b.x) & size(b.y) & size(b.z)
+    size_within(b.x) & size_within(b.y) & size_within(b.z)
 }
 
 // Whether each of n parts fits, as planes or as objects.
@@ -231,11 +232,4 @@ fn part_fits(prims: usize, kinds: &[u32], plane: bool, part: Part) -> bool
     (base < prims)
         & (wide(part.first) + wide(part.many) <= prims)
         & ((number_at(kinds, base) == 2) == plane)
-}
-
-// The same number, as an index or a count.
-fn wide(x: u32) -> usize
-    ensures { λ r. ⌜ r ≡ x ⌝ }
-{
-    x as usize
 }

@@ -3,3 +3,4 @@ pub mod Vector
 pub mod Tangent
 pub mod Flat
 pub mod Fold
+pub mod Halton

@@ -6,7 +6,7 @@ use Rattle.field.proofs.nearest.dist_mat.Tie as tie
 
 returns : tie.Need-returns
 unfolding distMat
-returns c = rw (c .nearest2 .ensures, c .before .nearest .ensures)
+returns c = rw (c .nearest-part2 .ensures, c .before .nearest-part .ensures)
 
 pub dist-mat-spec : {M : Type 1} → statement M
 dist-mat-spec = tie.close (tie.spec (λ c κs. search needs) (λ c κs. search needs) returns)

@@ -1,7 +1,7 @@
 -- `scene::shading::soft_shadow` meets its contract. The loop has made its samples, and what is left of the definition starts at the cursor. Assumes nothing.
 use Prim.Native.Nat.{_-_, _+_, _≤_}
-use Rattle.scene.proofs.Turns.{shadow-touch, shadow-dark, shadow-on, shadow-end, shadow-past}
-use Rattle.scene.specs.Shading.{softShadow, shadowFrom, lit}
+use Rattle.scene.proofs.Turns.{shadow-touch, shadow-occluded, shadow-on, shadow-end, shadow-past}
+use Rattle.scene.specs.Shading.{softShadow, shadowFrom, visible}
 use Rattle.tables.specs.Tables.{sceneOf}
 use borrow.Author.Needs.{needs}
 use mathlib.Core.Logic.{⊎-elim}
@@ -38,7 +38,7 @@ returns-2 : tie.Need-returns-2 Inv-loop μ-loop
 returns-2 c =
     let lp = c .before .before .before .before .before .before .before .before .before .before in
     rw (lp .loop .inv .1)
-    (shadow-dark _ _ _ _ _ (95 - lp .loop .m .steps) _ _ _ _ _ _ _ (omega arith) (c .before .before .before .before .before .before .if2 .taken) (c .before .before .before .before .before .along .ensures) (c .before .before .before .before .dist .ensures) _ (c .before .before .lowered .ensures) (c .before .before .before .if3 .left) (c .before .if4 .taken))
+    (shadow-occluded _ _ _ _ _ (95 - lp .loop .m .steps) _ _ _ _ _ _ _ (omega arith) (c .before .before .before .before .before .before .if2 .taken) (c .before .before .before .before .before .along .ensures) (c .before .before .before .before .dist .ensures) _ (c .before .before .lowered .ensures) (c .before .before .before .if3 .left) (c .before .if4 .taken))
 
 onward-requires : tie.Need-onward-requires Inv-loop μ-loop
 onward-requires c κs = omega arith
@@ -58,7 +58,7 @@ loop-again c =
     )
 
 returns-3 : tie.Need-returns-3 Inv-loop μ-loop
-unfolding lit
+unfolding visible
 returns-3 c =
     let lp = c .before .before .before in
     rw (c .clamp .ensures, lp .loop .inv .1)

@@ -6,7 +6,7 @@ use Rattle.tables.proofs.checks.shape_within.Tie as tie
 
 returns : tie.Need-returns
 unfolding shapeWithin
-returns c = rw (c .before .before .before .shape .given .1, c .size .ensures, c .before .point .ensures)
+returns c = rw (c .before .before .before .shape .given .1, c .size-within .ensures, c .before .point .ensures)
 
 returns-2 : tie.Need-returns-2
 unfolding shapeWithin
