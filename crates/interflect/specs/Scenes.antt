@@ -45,9 +45,11 @@ abbrev pub foundLeft : Found → ℕ → TraceOut → TraceOut
 foundLeft (At h) evals held = record { hit = 1; at = h; evals = evals }
 foundLeft None evals held = record { hit = 0; at = held .at; evals = evals }
 
+-- what a ray met, with its evaluations
 abbrev pub tracedLeft : Traced → TraceOut → TraceOut
 tracedLeft r held = foundLeft (r .found) (r .evals) held
 
+-- a refusal its number, else 0 and what the ray met
 abbrev pub traceLeft : TraceAnswer → TraceOut → ℕ × TraceOut
 traceLeft (Trace.Refused number) held = (number, held)
 traceLeft (Trace.Done r) held = (0, tracedLeft r held)
