@@ -2,7 +2,7 @@
 use mathlib.Core.Bool.{cond}
 use Prim.Native.Nat.{ℕ}
 use lib.Dec.{eqb}
-use lib.Ieee.{Float, binary32, ofBits, neg, lt}
+use lib.Ieee.{binary32, ofBits, neg, lt}
 use Rattle.float.specs.Arithmetic.{0f, 1f}
 use Rattle.vector.specs.declared.Vec3.{Vec3}
 use Rattle.vector.specs.Vector.{vec, plus, scaled, over, lengthOf}

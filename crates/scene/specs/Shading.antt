@@ -1,5 +1,5 @@
--- How much of a light is seen through a scene: document 01, 'Distance and marching' (`soft_shadow` within 96 steps; the closest-approach correction only while the ray
--- approaches), in the order of the Rust's float steps. Quilez's article 'soft shadows in raymarched SDFs' has the correction without the test. Definitions only.
+-- How much of a light is seen through a scene: document 01, 'Distance and marching' (`soft_shadow` within 96) and 'Tempting, and false' (no closest-approach correction when the
+-- ray recedes), in the order of the Rust's float steps. Quilez's article 'soft shadows in raymarched SDFs' has, as far as we know it, the correction without the test. Definitions only.
 use mathlib.Core.Bool.{cond}
 use Prim.Native.Nat.{ℕ, zero, suc, _+_}
 use lib.Ieee.{Float, binary32, ofBits, lt}

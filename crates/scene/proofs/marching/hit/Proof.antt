@@ -1,6 +1,5 @@
 -- `scene::marching::hit` meets its contract. It takes the normal at p. Assumes nothing.
 use borrow.Author.Needs.{needs}
-use native.Mathlib.Omega.{arith}
 use Rattle.scene.proofs.marching.hit.Statement.{statement}
 use Rattle.scene.proofs.marching.hit.Tie as tie
 
