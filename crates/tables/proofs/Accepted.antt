@@ -1,8 +1,6 @@
 -- What a refusal's number says of a scene's tests, both ways. Assumes nothing.
-use mathlib.Core.Bool.{Bool, true, _&&_}
-use mathlib.Core.List.{List, [], _∷_}
+use mathlib.Core.Bool.{Bool, true}
 use mathlib.Core.Path.{_≡_}
-use Prim.Native.Nat.{ℕ}
 use Rattle.accept.specs.Refusal.{firstFailed}
 use Rattle.accept.proofs.Refused.{Passed, none-failed}
 use Rattle.tables.specs.Tables.{Scene}
