@@ -39,3 +39,15 @@ pub first-failed-at : (l m : List (ℕ × Bool)) (number : ℕ) → Passed l →
 unfolding firstFailed
 first-failed-at [] m number p = refl
 first-failed-at ((k, passed) ∷ l) m number p = rw (p .0) (first-failed-at l m number (p .1))
+
+-- tests that passed leave the number to those after them, and one that failed comes before those
+pub first-failed-past : (l m : List (ℕ × Bool)) → Passed l → firstFailed (l ++ m) ≡ firstFailed m
+unfolding firstFailed
+first-failed-past [] m p = refl
+first-failed-past ((k, passed) ∷ l) m p = rw (p .0) (first-failed-past l m (p .1))
+
+pub first-failed-before : (l m : List (ℕ × Bool)) → (firstFailed l ≡ 0 → ⊥) → firstFailed (l ++ m) ≡ firstFailed l
+unfolding firstFailed
+first-failed-before [] m h = absurd (h refl)
+first-failed-before ((k, true) ∷ l) m h = first-failed-before l m h
+first-failed-before ((k, false) ∷ l) m h = refl

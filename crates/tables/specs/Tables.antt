@@ -3,13 +3,12 @@
 use mathlib.Core.Bool.{cond}
 use mathlib.Core.List.{List}
 use Prim.Native.Nat.{ℕ, _+_, _*_}
-use denote.Ref.{RefT, now}
-use denote.Triple.Both.{Both}
+use denote.Ref.{now}
 use lib.Dec.{eqb}
 use lib.Ieee.{Float}
 use lib.ListN.{drop}
 use Rattle.float.specs.Column.{floatAt}
-use Rattle.vector.specs.Flat.{vecAt}
+use Rattle.vector.specs.Flat.{Slice, vecAt}
 use Rattle.accept.specs.Tables.{numberAt}
 use Rattle.sdf.specs.declared.Shape.{Shape}
 use Rattle.sdf.specs.declared.Shape.the-variants.{Sphere, RoundBox, Plane, Capsule, Torus, Cylinder, Cone}
@@ -72,10 +71,6 @@ sceneOf prims planes objects kinds lengths planeParts objectParts =
       planeParts = planeParts;
       objectParts = objectParts;
     }
-
--- a lent slice at a function's two moments
-abbrev pub Slice : Type 0 → Type 0
-Slice X = Both (RefT (List X)) (RefT (List X))
 
 -- the scene that a function was lent
 abbrev pub sceneIn : ℕ → ℕ → ℕ → Slice ℕ → Slice Float → Slice ℕ → Slice ℕ → Scene

@@ -59,7 +59,7 @@ module _ {A : Type 0} (w : ℕ) (row : ℕ → List A) (wide : (i : ℕ) → len
       rw (f, ← drop-drop (w * (i - n)) (w * n) (rows row n ++ drop (w * n) l), drop-at (rows row n) _ (w * n) (length-rows n), drop-drop)
 
 -- only the first n rows count
-rows-same : {A : Type 0} (f g : ℕ → List A) (n : ℕ) → ((i : ℕ) → i < n → f i ≡ g i) → rows f n ≡ rows g n
+pub rows-same : {A : Type 0} (f g : ℕ → List A) (n : ℕ) → ((i : ℕ) → i < n → f i ≡ g i) → rows f n ≡ rows g n
 unfolding rows
 rows-same f g zero h = refl
 rows-same f g (suc n) h = rw (rows-same f g n (λ i k. h i (omega arith)), h n (omega arith))

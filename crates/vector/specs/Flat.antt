@@ -1,12 +1,18 @@
 -- Flat lists, vectors at three places each (document 01, 'What changes shape': lent slices), and what a loop that writes from the front leaves. Definitions only.
 use mathlib.Core.List.{List, [], _∷_, _++_}
 use Prim.Native.Nat.{ℕ, zero, suc, _+_, _*_}
+use denote.Ref.{RefT}
+use denote.Triple.Both.{Both}
 use lib.ListN.{drop}
 use lib.Seq.{sets}
 use lib.Ieee.{Float}
 use Rattle.float.specs.Column.{floatAt}
 use Rattle.vector.specs.declared.Vec3.{Vec3}
 use Rattle.vector.specs.Vector.{vec}
+
+-- a lent slice at a function's two moments
+abbrev pub Slice : Type 0 → Type 0
+Slice X = Both (RefT (List X)) (RefT (List X))
 
 -- the vector number i of a flat list; a float outside is NaN
 abbrev pub vecAt : List Float → ℕ → Vec3

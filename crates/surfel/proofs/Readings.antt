@@ -1,0 +1,125 @@
+-- What the definitions of the reading say, read back: when a point is unseen, that many readings are the single ones, and that the two decimals are the nearest floats. Assumes nothing.
+use mathlib.Core.Bool.{Bool, true, false, cond, _&&_, and-eq-true-iff}
+use mathlib.Core.List.{List, [], _∷_}
+use mathlib.Core.Logic.{_↔_}
+use mathlib.Core.Path.{_≡_, refl}
+use Prim.Native.Nat.{ℕ, _+_, _*_, _<_}
+use native.Mathlib.Omega.{arith}
+use lib.Dec.{eqb}
+use lib.Ieee.{Float, binary32, nan, lt, neg, ofBits, ofFields, round, units, odd, span, climb, size}
+use lib.ListN.{length, getD}
+use borrow.Author.Tests.{eqb-true}
+use Rattle.float.specs.Column.{floatAt}
+use Rattle.vector.specs.declared.Vec3.{Vec3}
+use Rattle.vector.specs.Flat.{vecAt, filled, written}
+use Rattle.vector.proofs.Replaced.{at-filled, at-written}
+use Rattle.accept.specs.Limits.{maxCoordinate, maxSurfels}
+use Rattle.accept.specs.Ranges.{within, point}
+use Rattle.accept.specs.Tables.{atMost}
+use Rattle.accept.proofs.Bounded.{floats-within-at}
+use Rattle.grid.specs.Blocks.{Grid, visited}
+use Rattle.surfel.specs.declared.GatherAllAnswer.{GatherAllAnswer}
+use Rattle.surfel.specs.declared.GatherAllAnswer.the-variants as All
+use Rattle.surfel.specs.declared.GatherAnswer.the-variants as One
+use Rattle.surfel.specs.declared.Reading.the-variants.{Seen, Unseen}
+use Rattle.surfel.specs.declared.Weighed.{Weighed}
+use Rattle.surfel.specs.Answers.{Probes, probesLent, readingAt, seenNumber, seenLight, gatherAnswer, gatherAllAnswer}
+use Rattle.surfel.specs.Checks.{coordinates, refusal}
+use Rattle.surfel.specs.Gathering.{Surfels, gather}
+use Rattle.surfel.specs.Weighing.{leastAlign, leastWeight, reading}
+use Rattle.surfel.proofs.Acceptance.{not-refused}
+
+-- ---- unseen
+
+-- a test that gives unseen did not hold
+unseen-by : (b : Bool) (light : Vec3) → cond b (Seen light) Unseen ≡ Unseen → b ≡ false
+unseen-by true light e = absurd (let z : _≡_ {A = ℕ} 0 1 = cc in omega arith)
+unseen-by false light e = refl
+
+-- unseen if and only if the sum of the weights does not exceed 0.000001
+pub unseen-iff : (a : Weighed) → (reading a ≡ Unseen) ↔ (lt leastWeight (a .weight) ≡ false)
+unfolding reading
+unseen-iff a = (λ e. unseen-by _ _ e, λ e. rw e)
+
+-- a NaN does not exceed it
+pub nan-unseen : (a : Weighed) → a .weight ≡ nan → reading a ≡ Unseen
+unfolding reading lt ofBits ofFields
+nan-unseen a e = rw e
+
+-- where no surfel is visited, the point is unseen
+pub none-visited : (g : Grid) (s : Surfels) (at normal : Vec3) (radius : Float) → visited g at 1 ≡ [] → gather g s at normal radius ≡ Unseen
+unfolding gather reading lt ofBits ofFields
+none-visited g s at normal radius e = rw e
+
+-- ---- many readings
+
+-- each vector of coordinates is a point
+point-of : (l : List Float) (n : ℕ) → coordinates l n ≡ true → (i : ℕ) → i < n → point (vecAt l i) ≡ true
+point-of l n e i h =
+    let w : (k : ℕ) → k < n * 3 → within (floatAt l k) (neg maxCoordinate) maxCoordinate ≡ true = floats-within-at l n 3 (neg maxCoordinate) maxCoordinate e .1 in
+    rw (w (3 * i) (omega arith), w (3 * i + 1) (omega arith), w (3 * i + 2) (omega arith))
+
+-- where one call on these tables is not refused, no other is whose own tests pass
+also-accepted : (g : Grid) (s : Surfels) (radius : Float) (few lent floats also : Bool) → refusal g s radius few lent floats ≡ 0 → also ≡ true → refusal g s radius true true also ≡ 0
+also-accepted g s radius few lent floats also e h =
+    let a = not-refused g s radius few lent floats e in
+    rw h (rw (a .few-passed, a .lent-passed, a .floats-passed) at e)
+
+-- an answer that is done was not refused
+done-by : (number : ℕ) (b : Bool) (x y : List ℕ × List Float) → eqb number 0 ≡ b
+    → cond {A = GatherAllAnswer × List ℕ × List Float} b (All.Done, x .0, x .1) (All.Refused number, y .0, y .1) .0 ≡ All.Done → number ≡ 0
+done-by number true x y e h = eqb-true number 0 e
+done-by number false x y e h = absurd (let z : _≡_ {A = ℕ} 0 1 = cc in omega arith)
+
+module _ (g : Grid) (s : Surfels) (q : Probes) (seen : List ℕ) (light : List Float) where
+  -- the tests of the probes: few (2), lent (4) and floats (5)
+  abbrev few : Bool
+  few = atMost (q .count) maxSurfels
+
+  abbrev lent : Bool
+  lent = probesLent (q .count) (length (q .p)) (length (q .normals)) (length seen) (length light)
+
+  abbrev floats : Bool
+  floats = coordinates (q .p) (q .count) && coordinates (q .normals) (q .count)
+
+  -- readings that are done were not refused
+  zero-number : gatherAllAnswer g s q seen light .0 ≡ All.Done → refusal g s (q .radius) few lent floats ≡ 0
+  unfolding gatherAllAnswer
+  zero-number e = done-by (refusal g s (q .radius) few lent floats) _ (filled (λ i. seenNumber (readingAt g s q i)) (q .count) seen, written (λ i. seenLight (readingAt g s q i)) (q .count) light) (seen, light) refl e
+
+  -- what is left where the readings are done
+  pub all-done : gatherAllAnswer g s q seen light .0 ≡ All.Done
+      → gatherAllAnswer g s q seen light ≡ (All.Done, filled (λ i. seenNumber (readingAt g s q i)) (q .count) seen, written (λ i. seenLight (readingAt g s q i)) (q .count) light)
+  unfolding gatherAllAnswer
+  all-done e = rw (zero-number e)
+
+  module _ (e : gatherAllAnswer g s q seen light .0 ≡ All.Done) (i : ℕ) (h : i < q .count) where
+    -- what is seen of probe i is what the reading there sees
+    pub seen-at : getD (gatherAllAnswer g s q seen light .1) i 0 ≡ seenNumber (readingAt g s q i)
+    seen-at = rw (all-done e) (at-filled (λ i. seenNumber (readingAt g s q i)) (q .count) i seen 0 h)
+
+    -- and its light is the light there
+    pub light-at : vecAt (gatherAllAnswer g s q seen light .2) i ≡ seenLight (readingAt g s q i)
+    light-at = rw (all-done e) (at-written (λ i. seenLight (readingAt g s q i)) (q .count) i light h)
+
+    -- and so it is what the single reading answers
+    pub single-at : gatherAnswer g s (vecAt (q .p) i) (vecAt (q .normals) i) (q .radius) ≡ One.Done (readingAt g s q i)
+    unfolding gatherAnswer
+    single-at =
+        let z = zero-number e in
+        let both = and-eq-true-iff (coordinates (q .p) (q .count)) (coordinates (q .normals) (q .count)) .0 (not-refused g s (q .radius) few lent floats z .floats-passed) in
+        let at = point-of (q .p) (q .count) (both .0) i h in
+        let normal = point-of (q .normals) (q .count) (both .1) i h in
+        let floats-at = point (vecAt (q .p) i) && point (vecAt (q .normals) i) in
+        rw (also-accepted g s (q .radius) few lent floats floats-at z (rw at normal))
+
+-- ---- the decimals
+
+-- the float nearest p / q
+abbrev nearest : ℕ → ℕ → Float
+nearest p q = round binary32 false p q
+
+-- 0.15 and 0.000001
+pub decimals-nearest : leastAlign ∷ leastWeight ∷ [] ≡ nearest 15 100 ∷ nearest 1 1000000 ∷ []
+unfolding ofBits ofFields round units odd span climb size
+decimals-nearest = refl

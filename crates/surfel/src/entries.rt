@@ -1,0 +1,149 @@
+// The public entries of the reading: each refuses the call by document 01's number and then writes
+// nothing, or answers it.
+use crate::GatherAllAnswer;
+use crate::GatherAnswer;
+use crate::checks::refusal;
+use crate::gathering::read;
+use crate::sheet::read_each;
+use accept::at_most;
+use accept::floats_within;
+use accept::holds;
+use accept::limits::MAX_COORDINATE;
+use accept::limits::MAX_SURFELS;
+use accept::point;
+use vector::Vec3;
+ghost use mathlib.Core.Path.{_≡_};
+ghost use Rattle.grid.specs.Checks.{gridIn};
+ghost use Rattle.surfel.specs.Lent.{surfelsIn};
+ghost use Rattle.surfel.specs.Answers.{gatherAnswer, gatherAllAnswer, probesIn, probesLent};
+
+// The light at the point `at` with this normal.
+pub fn gather(
+    n: usize,
+    starts: &[u32],
+    items: &[u32],
+    lo: Vec3,
+    hi: Vec3,
+    cell: f32,
+    p: &[f32],
+    normals: &[f32],
+    irr: &[f32],
+    at: Vec3,
+    normal: Vec3,
+    radius: f32,
+) -> GatherAnswer
+    ensures { λ r. ⌜ r ≡ gatherAnswer (gridIn n starts items lo hi cell) (surfelsIn p normals irr) at normal radius ⌝ }
+{
+    let floats = point(at) & point(normal);
+    let number = refusal(
+        n,
+        starts,
+        items,
+        lo,
+        hi,
+        cell,
+        p,
+        normals,
+        irr,
+        radius,
+        true,
+        true,
+        floats,
+    );
+    if number == 0 {
+        GatherAnswer::Done(read(
+            n,
+            starts,
+            items,
+            lo,
+            hi,
+            cell,
+            p,
+            normals,
+            irr,
+            at,
+            normal,
+            radius,
+        ))
+    } else {
+        GatherAnswer::Refused(number)
+    }
+}
+
+// The light at each of many probes: seen becomes 1 where it is seen and 0 where it is not, and light
+// the light, zero where it is unseen.
+pub fn gather_all(
+    n: usize,
+    starts: &[u32],
+    items: &[u32],
+    lo: Vec3,
+    hi: Vec3,
+    cell: f32,
+    p: &[f32],
+    normals: &[f32],
+    irr: &[f32],
+    probes: usize,
+    probe_p: &[f32],
+    probe_normals: &[f32],
+    radius: f32,
+    seen: &mut [u32],
+    light: &mut [f32],
+) -> GatherAllAnswer
+    ensures { λ r. ⌜ (r, now (seen .exit), now (light .exit))
+        ≡ gatherAllAnswer (gridIn n starts items lo hi cell) (surfelsIn p normals irr) (probesIn probes «probe_p» «probe_normals» radius) (now (seen .entry)) (now (light .entry)) ⌝ }
+{
+    let lent = probes_lent(
+        probes,
+        probe_p.len(),
+        probe_normals.len(),
+        seen.len(),
+        light.len(),
+    );
+    let floats = floats_within(probe_p, probes, 3, -MAX_COORDINATE, MAX_COORDINATE)
+        & floats_within(probe_normals, probes, 3, -MAX_COORDINATE, MAX_COORDINATE);
+    let few = at_most(probes, MAX_SURFELS);
+    let number = refusal(
+        n,
+        starts,
+        items,
+        lo,
+        hi,
+        cell,
+        p,
+        normals,
+        irr,
+        radius,
+        few,
+        lent,
+        floats,
+    );
+    if number == 0 {
+        read_each(
+            n,
+            starts,
+            items,
+            lo,
+            hi,
+            cell,
+            p,
+            normals,
+            irr,
+            probes,
+            probe_p,
+            probe_normals,
+            radius,
+            seen,
+            light,
+        );
+        GatherAllAnswer::Done
+    } else {
+        GatherAllAnswer::Refused(number)
+    }
+}
+
+// Whether the slices of these lengths hold so many probes and their readings.
+fn probes_lent(probes: usize, p: usize, normals: usize, seen: usize, light: usize) -> bool
+    ensures { λ r. ⌜ r ≡ probesLent probes p normals seen light ⌝ }
+{
+    holds(p, probes, 3) & holds(normals, probes, 3) & (probes <= seen) & holds(light, probes, 3)
+}
