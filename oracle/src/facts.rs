@@ -1,4 +1,4 @@
-//! Facts that document 01 gives, asked of this build of the Rust, two places where another order of
+//! Facts that document 01 gives, asked of this build of the Rust, places where another order of
 //! float steps gives other bits, and the tables of the closure's directions. `oracle/build` runs
 //! these tests.
 
@@ -120,6 +120,76 @@ fn cells_are_counted_by_one_over_the_cell() {
     let (extent, cell) = (f32::from_bits(0x3C75C290), f32::from_bits(0x3B449BA6));
     let grid = Grid::build(&[], Vec3::ZERO, Vec3::splat(extent), cell);
     assert_eq!(grid.dim, [6, 6, 6]);
+}
+
+/// "cells 0, 0.0001, 10,000": the first is refused, so the Rust is not asked for it.
+#[test]
+fn the_least_and_the_largest_cell() {
+    let dim = |hi, cell| Grid::build(&[], Vec3::ZERO, hi, cell).dim;
+    assert_eq!(dim(Vec3::new(0.0005, 0.00095, 0.0), 0.0001), [5, 10, 1]);
+    assert_eq!(dim(Vec3::new(4.0, 1.0, 1.0), 0.0001), [512, 512, 512]);
+    assert_eq!(dim(Vec3::new(4.0, 1.0, 10_000.0), 10_000.0), [1, 1, 1]);
+}
+
+/// "z outermost, x innermost, and point numbers in list order".
+#[test]
+fn the_cells_near_a_point_in_their_order() {
+    // Point k lies in cell 7 - k of eight, and point 8 beside point 7.
+    let spots = [7, 6, 5, 4, 3, 2, 1, 0, 0];
+    let points = spots.map(|c| Vec3::new((c % 2) as f32, (c / 2 % 2) as f32, (c / 4) as f32));
+    let grid = Grid::build(&points, Vec3::ZERO, Vec3::splat(2.0), 1.0);
+    let near = |reach| {
+        let mut list = Vec::new();
+        grid.for_each_near(Vec3::ZERO, reach, |number| list.push(number));
+        list
+    };
+    assert_eq!(near(0), [7, 8]);
+    assert_eq!(near(1), [7, 8, 6, 5, 4, 3, 2, 1, 0]);
+}
+
+/// One surfel at zero with this irradiance, read in room Q's grid.
+fn read(irr: f32, at: f32, n: f32, radius: f32) -> f32 {
+    let (mut surfels, _) = room_q();
+    surfels[0].irr = Vec3::splat(irr);
+    let grid = grid_q(&[surfels[0].p]);
+    let (p, n) = (Vec3::new(at, 0.0, 0.0), Vec3::new(0.0, 0.0, n));
+    gather(&surfels, &grid, p, n, radius).x
+}
+
+/// "radius 0 is unseen": the Rust gives zero.
+#[test]
+fn a_radius_of_0_gives_zero() {
+    assert_eq!(read(1.0, 0.0, 1.0, 0.0).to_bits(), 0);
+    assert_eq!(read(f32::NAN, 0.0, 1.0, 0.0).to_bits(), 0);
+}
+
+/// The light is divided by the weight sum: multiplied by one over it, 1 would be 3F7FFFFF.
+#[test]
+fn a_reading_is_divided_by_its_weight() {
+    assert_eq!(41.0 * (1.0 / 41.0f32), f32::from_bits(0x3F7FFFFF));
+    assert_eq!(read(1.0, 0.0, 41.0, 1.0), 1.0);
+}
+
+/// A normal's dot product of 0.15 does not count, the next float does.
+#[test]
+fn a_dot_product_over_0_15() {
+    assert_eq!(read(1.0, 0.0, 0.15, 1.0).to_bits(), 0);
+    assert_eq!(read(1.0, 0.0, 0.15f32.next_up(), 1.0), 1.0);
+}
+
+/// A surfel at exactly the radius counts with the weight 0, which infinite light makes NaN.
+#[test]
+fn a_weight_of_0_is_not_left_out() {
+    let (mut surfels, _) = room_q();
+    surfels[0].irr = Vec3::splat(f32::INFINITY);
+    let mut second = surfels[0];
+    second.p = Vec3::new(1.0, 0.0, 0.0);
+    second.irr = Vec3::ONE;
+    let surfels = [surfels[0], second];
+    let grid = grid_q(&surfels.map(|s| s.p));
+    let at = |x| gather(&surfels, &grid, Vec3::new(x, 0.0, 0.0), surfels[0].n, 1.0).x;
+    assert!(at(1.0).is_nan());
+    assert_eq!(at(1.0f32.next_up()), 1.0);
 }
 
 /// A plane without subtractions.

@@ -69,7 +69,7 @@ fn miswired(t: &Tables) -> bool {
 }
 
 /// "coordinates, normals and plane heights ±10,000".
-fn coordinate(x: f32) -> bool {
+pub fn coordinate(x: f32) -> bool {
     (-10_000.0..=10_000.0).contains(&x)
 }
 

@@ -3,13 +3,18 @@
 
 mod answers;
 mod cases;
+mod grid_refusals;
 mod queries;
 mod random;
+mod readings;
 mod refusals;
 mod scene_cases;
+mod sheets;
+mod surfel_cases;
 mod tables;
 
 use cases::Case;
+use sheets::Sheet;
 use std::path::Path;
 use std::{env, fs, io};
 use tables::Tables;
@@ -23,7 +28,13 @@ fn main() -> io::Result<()> {
     let mut tables = Tables::new();
     write(&crates.join("replay_scene"), &scene_cases::all(), |case| {
         (!tables.store(case)).then(|| queries::answer(&tables, case))
-    })
+    })?;
+    let mut sheet = Sheet::new();
+    write(
+        &crates.join("replay_surfel"),
+        &surfel_cases::all(),
+        |case| (!sheet.store(case)).then(|| readings::answer(&mut sheet, case)),
+    )
 }
 
 /// Writes the cases and their answers into a folder, a line each, and prints how many there are. A

@@ -6,6 +6,7 @@ use denote.Triple.Both.{Both}
 use lib.Ieee.{Float}
 use Rattle.vector.specs.declared.Vec3.{Vec3}
 use Rattle.vector.specs.Vector.{vec}
+use Rattle.grid.specs.declared.Dims.{Dims}
 use Rattle.scene.specs.declared.Closure.{Closure}
 use Rattle.field.specs.declared.DistHit.{DistHit}
 use Rattle.scene.specs.declared.Hit.{Hit}
@@ -73,4 +74,26 @@ closureOuts sky evals =
     record {
       entry = record { sky = now (sky .entry); evals = now (evals .entry) };
       exit = record { sky = now (sky .exit); evals = now (evals .exit) };
+    }
+
+-- how many cells a grid has on each axis
+abbrev pub dimsOuts : Out ℕ → Out ℕ → Out ℕ → Moments Dims
+dimsOuts x y z =
+    record {
+      entry = record { x = now (x .entry); y = now (y .entry); z = now (z .entry) };
+      exit = record { x = now (x .exit); y = now (y .exit); z = now (z .exit) };
+    }
+
+-- what the outs of a reading hold: seen is 1 or 0, and the light
+pub record ReadingOut : Type 0 where
+  pub seen : ℕ
+  pub light : Vec3
+
+-- whether the light is seen, and the light
+abbrev pub readingOuts : Out ℕ → Out Float → Out Float → Out Float → Moments ReadingOut
+readingOuts seen x y z =
+    let light = vecOuts x y z in
+    record {
+      entry = record { seen = now (seen .entry); light = light .entry };
+      exit = record { seen = now (seen .exit); light = light .exit };
     }

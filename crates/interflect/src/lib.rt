@@ -4,6 +4,7 @@
 // No function here asks anything of its caller.
 mod floats;
 mod scenes;
+mod surfels;
 
 pub use floats::interflect_cell;
 pub use floats::interflect_cell_count;
@@ -13,3 +14,7 @@ pub use scenes::interflect_hemisphere_closure;
 pub use scenes::interflect_normal;
 pub use scenes::interflect_soft_shadow;
 pub use scenes::interflect_trace;
+pub use surfels::interflect_gather;
+pub use surfels::interflect_gather_all;
+pub use surfels::interflect_grid_build;
+pub use surfels::interflect_near;

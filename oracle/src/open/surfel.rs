@@ -17,6 +17,17 @@ pub mod open {
         }
     }
 
+    /// A grid of these tables, whether or not `build` would make them.
+    pub fn of_tables(lo: Vec3, cell: f32, dim: [i32; 3], starts: &[u32], items: &[u32]) -> Grid {
+        Grid {
+            lo,
+            inv_cell: 1.0 / cell,
+            dim,
+            starts: starts.to_vec(),
+            items: items.to_vec(),
+        }
+    }
+
     pub fn cell_of(grid: &Grid, p: Vec3) -> [i32; 3] {
         grid.cell_of(p)
     }

@@ -1,0 +1,63 @@
+-- What the grid and the reading leave through the C interface: document 01, 'The reading', 'The grid' and 'Refused calls'. Each takes what the outs held and gives the number that is
+-- returned with what the outs and the slices hold then: a refused call leaves them as they were. Definitions only.
+use mathlib.Core.List.{List}
+use Prim.Native.Nat.{ℕ}
+use lib.Ieee.{Float}
+use Rattle.vector.specs.declared.Vec3.{Vec3}
+use Rattle.grid.specs.Answers.{gridBuildAnswer, nearAnswer}
+use Rattle.grid.specs.Blocks.{Grid}
+use Rattle.grid.specs.declared.Dims.{Dims}
+use Rattle.grid.specs.declared.GridAnswer.{GridAnswer}
+use Rattle.grid.specs.declared.GridAnswer.the-variants as Built
+use Rattle.grid.specs.declared.NearAnswer.{NearAnswer}
+use Rattle.grid.specs.declared.NearAnswer.the-variants as Near
+use Rattle.surfel.specs.Answers.{Probes, gatherAnswer, gatherAllAnswer, seenNumber, seenLight}
+use Rattle.surfel.specs.Gathering.{Surfels}
+use Rattle.surfel.specs.declared.GatherAllAnswer.{GatherAllAnswer}
+use Rattle.surfel.specs.declared.GatherAllAnswer.the-variants as All
+use Rattle.surfel.specs.declared.GatherAnswer.{GatherAnswer}
+use Rattle.surfel.specs.declared.GatherAnswer.the-variants as One
+use Rattle.surfel.specs.declared.Reading.{Reading}
+use Rattle.interflect.specs.Outs.{ReadingOut}
+
+-- what each answer leaves: a refusal its number, else 0 and the answer's own numbers
+abbrev pub gridLeft : GridAnswer → Dims → ℕ × Dims
+gridLeft (Built.Refused number) held = (number, held)
+gridLeft (Built.Done d) held = (0, d)
+
+abbrev pub nearLeft : NearAnswer → ℕ → ℕ × ℕ
+nearLeft (Near.Refused number) held = (number, held)
+nearLeft (Near.Done count) held = (0, count)
+
+-- 1 and the light, or 0 and zeros
+abbrev pub readingLeft : Reading → ReadingOut
+readingLeft r = record { seen = seenNumber r; light = seenLight r }
+
+abbrev pub gatherLeft : GatherAnswer → ReadingOut → ℕ × ReadingOut
+gatherLeft (One.Refused number) held = (number, held)
+gatherLeft (One.Done r) held = (0, readingLeft r)
+
+abbrev pub gatherAllLeft : GatherAllAnswer → ℕ
+gatherAllLeft (All.Refused number) = number
+gatherAllLeft All.Done = 0
+
+-- the entries
+abbrev pub interflectGridBuild : ℕ → List Float → Vec3 → Vec3 → Float → Dims → List ℕ → List ℕ → ℕ × Dims × List ℕ × List ℕ
+interflectGridBuild n p lo hi size held starts items =
+    let r = gridBuildAnswer n p lo hi size starts items in
+    let left = gridLeft (r .0) held in
+    (left .0, left .1, r .1, r .2)
+
+abbrev pub interflectNear : Grid → Vec3 → ℕ → ℕ → List ℕ → ℕ × ℕ × List ℕ
+interflectNear g p reach held list =
+    let r = nearAnswer g p reach list in
+    let left = nearLeft (r .0) held in
+    (left .0, left .1, r .1)
+
+abbrev pub interflectGather : Grid → Surfels → Vec3 → Vec3 → Float → ReadingOut → ℕ × ReadingOut
+interflectGather g s at normal radius held = gatherLeft (gatherAnswer g s at normal radius) held
+
+abbrev pub interflectGatherAll : Grid → Surfels → Probes → List ℕ → List Float → ℕ × List ℕ × List Float
+interflectGatherAll g s q seen light =
+    let r = gatherAllAnswer g s q seen light in
+    (gatherAllLeft (r .0), r .1, r .2)
