@@ -5,7 +5,13 @@ ghost use mathlib.Core.Path.{_≡_};
 ghost use Prim.Native.Nat.{_+_, _*_, _-_, _<_, _≤_};
 ghost use lib.ListN.{length};
 ghost use lib.Seq.{slice, sets};
-ghost use Rattle.grid.specs.Blocks.{layerListed, blockListed, Walkable, Small};
+ghost use Rattle.grid.specs.Blocks.{layerListed, blockListed, rowFrom, rowTo, Walkable, Small};
+
+// Places of items, from the first up to the second.
+struct Row {
+    from: usize,
+    to: usize,
+}
 
 // How many numbers a block lists.
 pub fn count_block(starts: &[u32], items: &[u32], n: usize, b: Block) -> usize
@@ -33,8 +39,8 @@ fn count_layer(starts: &[u32], items: &[u32], n: usize, b: Block, z: usize) -> u
     let mut count = 0;
     let mut y = 0;
     while y < b.rows {
-        let c = b.first + b.layer_step * z + b.row_step * y;
-        count += wide(starts[c + b.wide]) - wide(starts[c]);
+        let row = row_at(starts, items, n, b, z, y);
+        count += row.to - row.from;
         y += 1;
     }
     count
@@ -73,11 +79,9 @@ fn list_layer(
     let mut k = at;
     let mut y = 0;
     while y < b.rows {
-        let c = b.first + b.layer_step * z + b.row_step * y;
-        let from = wide(starts[c]);
-        let to = wide(starts[c + b.wide]);
-        list_row(items, from, to, list, k);
-        k += to - from;
+        let row = row_at(starts, items, n, b, z, y);
+        list_row(items, row.from, row.to, list, k);
+        k += row.to - row.from;
         y += 1;
     }
     k
@@ -94,5 +98,20 @@ fn list_row(items: &[u32], from: usize, to: usize, list: &mut [u32], at: usize)
     while j < to - from {
         list[at + j] = items[from + j];
         j += 1;
+    }
+}
+
+// Where the numbers of row y of layer z of a block stand in items.
+fn row_at(starts: &[u32], items: &[u32], n: usize, b: Block, z: usize, y: usize) -> Row
+    requires { ⌜ Walkable (now starts) (now items) n b ⌝ }
+    requires { ⌜ z < b .layers ⌝ }
+    requires { ⌜ y < b .rows ⌝ }
+    ensures { λ r. ⌜ r .from ≡ rowFrom (now (starts .entry)) b y z ⌝ }
+    ensures { λ r. ⌜ r .to ≡ rowTo (now (starts .entry)) b y z ⌝ }
+{
+    let c = b.first + b.layer_step * z + b.row_step * y;
+    Row {
+        from: wide(starts[c]),
+        to: wide(starts[c + b.wide]),
     }
 }

@@ -16,7 +16,7 @@ use Rattle.grid.specs.Blocks.{Grid}
 use Rattle.grid.specs.Checks as Grids
 use Rattle.grid.specs.Checks.{cellsOf, sized, tablesHold, listFits}
 use Rattle.grid.proofs.Nearby.{accepted}
-use Rattle.surfel.specs.Answers.{probesLent}
+use Rattle.surfel.specs.Answers.{Probes, probesLent, allRefusal}
 use Rattle.surfel.specs.Checks.{column, coordinates, radiusWithin, columnsHold, placed, refusal}
 use Rattle.surfel.specs.Gathering.{Surfels}
 use Rattle.surfel.specs.Lent.{Listed, Accepted}
@@ -85,8 +85,18 @@ answered-accepted g s radius few lent floats e =
     }
 
 -- slices that hold the probes have room for what is seen, and for the light
-pub lent-room : (count p normals seen light : ℕ) → probesLent count p normals seen light ≡ true → (count ≤ seen) × (3 * count ≤ light)
+lent-room : (count p normals seen light : ℕ) → probesLent count p normals seen light ≡ true → (count ≤ seen) × (3 * count ≤ light)
 unfolding probesLent
 lent-room count p normals seen light e =
     let h = conj-each (holds p count 3 ∷ holds normals count 3 ∷ leb count seen ∷ holds light count 3 ∷ []) e in
     (leb-true _ _ (h .1 .1 .0), three-each light count (h .1 .1 .1 .0))
+
+-- probes that are not refused read tables that are accepted, into slices with room for each
+pub all-accepted : (g : Grid) (s : Surfels) (q : Probes) (seen light : ℕ) → allRefusal g s q seen light ≡ 0
+    → Accepted g s × (q .count ≤ seen) × (3 * q .count ≤ light)
+all-accepted g s q seen light e =
+    let few = atMost (q .count) maxSurfels in
+    let lent = probesLent (q .count) (length (q .p)) (length (q .normals)) seen light in
+    let floats = coordinates (q .p) (q .count) && coordinates (q .normals) (q .count) in
+    let room = lent-room (q .count) (length (q .p)) (length (q .normals)) seen light (not-refused g s (q .radius) few lent floats e .lent-passed) in
+    (answered-accepted g s (q .radius) few lent floats e, room .0, room .1)

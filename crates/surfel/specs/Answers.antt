@@ -58,11 +58,21 @@ readingAt g s q i = gather g s (vecAt (q .p) i) (vecAt (q .normals) i) (q .radiu
 unfoldable pub probesLent : ℕ → ℕ → ℕ → ℕ → ℕ → Bool
 probesLent count p normals seen light = conj (holds p count 3 ∷ holds normals count 3 ∷ leb count seen ∷ holds light count 3 ∷ [])
 
+-- the number that refuses these probes, whose readings go into slices of these lengths; 0 if none does
+abbrev pub allRefusal : Grid → Surfels → Probes → ℕ → ℕ → ℕ
+allRefusal g s q seen light =
+    refusal g s (q .radius) (atMost (q .count) maxSurfels) (probesLent (q .count) (length (q .p)) (length (q .normals)) seen light)
+    (coordinates (q .p) (q .count) && coordinates (q .normals) (q .count))
+
+-- what is seen at each probe, and the light there
+abbrev pub allSeen : Grid → Surfels → Probes → List ℕ → List ℕ
+allSeen g s q seen = filled (λ i. seenNumber (readingAt g s q i)) (q .count) seen
+
+abbrev pub allLight : Grid → Surfels → Probes → List Float → List Float
+allLight g s q light = written (λ i. seenLight (readingAt g s q i)) (q .count) light
+
 -- the readings at many points: the answer, what is seen, and the light
 unfoldable pub gatherAllAnswer : Grid → Surfels → Probes → List ℕ → List Float → GatherAllAnswer × List ℕ × List Float
 gatherAllAnswer g s q seen light =
-    answered (λ number. (All.Refused number, seen, light))
-    (All.Done, filled (λ i. seenNumber (readingAt g s q i)) (q .count) seen, written (λ i. seenLight (readingAt g s q i)) (q .count) light)
-    (refusal g s (q .radius) (atMost (q .count) maxSurfels)
-    (probesLent (q .count) (length (q .p)) (length (q .normals)) (length seen) (length light))
-    (coordinates (q .p) (q .count) && coordinates (q .normals) (q .count)))
+    answered (λ number. (All.Refused number, seen, light)) (All.Done, allSeen g s q seen, allLight g s q light)
+    (allRefusal g s q (length seen) (length light))

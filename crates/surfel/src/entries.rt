@@ -2,20 +2,16 @@
 // nothing, or answers it.
 use crate::GatherAllAnswer;
 use crate::GatherAnswer;
+use crate::checks::all_refusal;
 use crate::checks::refusal;
 use crate::gathering::read;
 use crate::sheet::read_each;
-use accept::at_most;
-use accept::floats_within;
-use accept::holds;
-use accept::limits::MAX_COORDINATE;
-use accept::limits::MAX_SURFELS;
 use accept::point;
 use vector::Vec3;
 ghost use mathlib.Core.Path.{_≡_};
 ghost use Rattle.grid.specs.Checks.{gridIn};
 ghost use Rattle.surfel.specs.Lent.{surfelsIn};
-ghost use Rattle.surfel.specs.Answers.{gatherAnswer, gatherAllAnswer, probesIn, probesLent};
+ghost use Rattle.surfel.specs.Answers.{gatherAnswer, gatherAllAnswer, probesIn};
 
 // The light at the point `at` with this normal.
 pub fn gather(
@@ -92,17 +88,7 @@ pub fn gather_all(
     ensures { λ r. ⌜ (r, now (seen .exit), now (light .exit))
         ≡ gatherAllAnswer (gridIn n starts items lo hi cell) (surfelsIn p normals irr) (probesIn probes «probe_p» «probe_normals» radius) (now (seen .entry)) (now (light .entry)) ⌝ }
 {
-    let lent = probes_lent(
-        probes,
-        probe_p.len(),
-        probe_normals.len(),
-        seen.len(),
-        light.len(),
-    );
-    let floats = floats_within(probe_p, probes, 3, -MAX_COORDINATE, MAX_COORDINATE)
-        & floats_within(probe_normals, probes, 3, -MAX_COORDINATE, MAX_COORDINATE);
-    let few = at_most(probes, MAX_SURFELS);
-    let number = refusal(
+    let number = all_refusal(
         n,
         starts,
         items,
@@ -112,10 +98,12 @@ pub fn gather_all(
         p,
         normals,
         irr,
+        probes,
+        probe_p,
+        probe_normals,
         radius,
-        few,
-        lent,
-        floats,
+        seen.len(),
+        light.len(),
     );
     if number == 0 {
         read_each(
@@ -139,11 +127,4 @@ pub fn gather_all(
     } else {
         GatherAllAnswer::Refused(number)
     }
-}
-
-// Whether the slices of these lengths hold so many probes and their readings.
-fn probes_lent(probes: usize, p: usize, normals: usize, seen: usize, light: usize) -> bool
-    ensures { λ r. ⌜ r ≡ probesLent probes p normals seen light ⌝ }
-{
-    holds(p, probes, 3) & holds(normals, probes, 3) & (probes <= seen) & holds(light, probes, 3)
 }

@@ -3,12 +3,11 @@ use crate::Reading;
 use crate::gathering::read;
 use vector::Vec3;
 ghost use mathlib.Core.Path.{_≡_};
-ghost use Prim.Native.Nat.{_+_, _*_, _≤_, _<_};
-ghost use lib.ListN.{length, set};
-ghost use Rattle.vector.specs.Flat.{putAt, filled, written};
+ghost use Prim.Native.Nat.{_*_, _≤_};
+ghost use lib.ListN.{length};
 ghost use Rattle.grid.specs.Checks.{gridOf, gridIn};
 ghost use Rattle.surfel.specs.Lent.{surfelsOf, surfelsIn, Accepted};
-ghost use Rattle.surfel.specs.Answers.{seenNumber, seenLight, readingAt, probesIn};
+ghost use Rattle.surfel.specs.Answers.{seenNumber, seenLight, probesIn, allSeen, allLight};
 
 // The reading at each of the probes.
 pub fn read_each(
@@ -31,8 +30,10 @@ pub fn read_each(
     requires { ⌜ Accepted (gridOf n (now starts) (now items) lo hi cell) (surfelsOf (now p) (now normals) (now irr)) ⌝ }
     requires { ⌜ probes ≤ length (now seen) ⌝ }
     requires { ⌜ 3 * probes ≤ length (now light) ⌝ }
-    ensures { λ r. ⌜ now (seen .exit) ≡ filled (λ i. seenNumber (readingAt (gridIn n starts items lo hi cell) (surfelsIn p normals irr) (probesIn probes «probe_p» «probe_normals» radius) i)) probes (now (seen .entry)) ⌝ }
-    ensures { λ r. ⌜ now (light .exit) ≡ written (λ i. seenLight (readingAt (gridIn n starts items lo hi cell) (surfelsIn p normals irr) (probesIn probes «probe_p» «probe_normals» radius) i)) probes (now (light .entry)) ⌝ }
+    ensures { λ r. ⌜ now (seen .exit)
+        ≡ allSeen (gridIn n starts items lo hi cell) (surfelsIn p normals irr) (probesIn probes «probe_p» «probe_normals» radius) (now (seen .entry)) ⌝ }
+    ensures { λ r. ⌜ now (light .exit)
+        ≡ allLight (gridIn n starts items lo hi cell) (surfelsIn p normals irr) (probesIn probes «probe_p» «probe_normals» radius) (now (light .entry)) ⌝ }
 {
     let mut i = 0;
     while i < probes {
