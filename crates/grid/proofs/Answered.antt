@@ -1,7 +1,7 @@
 -- What `near` answers in each of its cases: that the list holds the numbers is tested after all else. Assumes nothing.
 use mathlib.Core.Bool.{Bool, true, and-eq-true-iff}
 use mathlib.Core.List.{List, [], _∷_, _++_}
-use mathlib.Core.Path.{_≡_, sym, _∙_}
+use mathlib.Core.Path.{_≡_}
 use Prim.Native.Nat.{ℕ, _≤_, _<_}
 use borrow.Author.Tests.{le-leb, lt-leb, ne-eqb}
 use lib.Dec.{leb}
@@ -14,7 +14,6 @@ use Rattle.accept.specs.Refusal.{firstFailed}
 use Rattle.accept.specs.Tables.{atMost}
 use Rattle.accept.proofs.Bounded.{at-most-le}
 use Rattle.accept.proofs.Refused.{first-failed-past, first-failed-before}
-use Rattle.grid.specs.declared.NearAnswer.{NearAnswer}
 use Rattle.grid.specs.declared.NearAnswer.the-variants as Near
 use Rattle.grid.specs.Answers.{nearAnswer}
 use Rattle.grid.specs.Blocks.{Grid, visited, blockNear, blockListed, Walkable, Small}

@@ -1,11 +1,9 @@
 -- The cells near a point as rows that follow one another: they lie in the grid, and what is visited are their numbers. Assumes nothing.
 use mathlib.Core.Bool.{Bool, true, and-eq-true-iff}
-use mathlib.Core.List.{List}
-use mathlib.Core.Path.{_≡_, refl, sym, ap, _∙_}
-use Prim.Native.Nat.{ℕ, suc, _+_, _-_, _*_, _≤_, _<_}
+use mathlib.Core.Path.{_≡_, sym, ap, _∙_}
+use Prim.Native.Nat.{ℕ, suc, _+_, _*_, _≤_, _<_}
 use native.Mathlib.Nat.{add-assoc, mul-suc, mul-add, mul-assoc, mul-le-mul-left}
 use native.Mathlib.Omega.{arith}
-use lib.Ieee.{Float}
 use lib.ListN.{length}
 use lib.Seq.{slice}
 use Rattle.float.specs.Arithmetic.{_/f_, 1f}
@@ -19,7 +17,7 @@ use Rattle.accept.proofs.Starts.{Monotone, not-falling, starts-monotone}
 use Rattle.grid.specs.declared.Cell.{Cell}
 use Rattle.grid.specs.declared.Dims.{Dims}
 use Rattle.grid.specs.Blocks.{Grid, firstNear, countNear, listed, visited, blockNear, blockListed, rowCell, Walkable, Small}
-use Rattle.grid.specs.Cells.{dimsOf, cells, cellOf, cellNumber, Bounded, Within}
+use Rattle.grid.specs.Cells.{dimsOf, cells, cellOf, cellNumber, Within}
 use Rattle.grid.specs.Checks.{cellsOf, listFits, tests, refusal}
 use Rattle.grid.proofs.Numbered.{dims-bounded, cell-within, row-major}
 use Rattle.grid.proofs.Slices.{rows-join}

@@ -1,12 +1,12 @@
 -- Parts of a list that follow one another. Assumes nothing.
-use mathlib.Core.List.{List, [], _∷_, _++_, append-nil}
-use mathlib.Core.Path.{_≡_, refl, sym, ap, _∙_}
+use mathlib.Core.List.{List, _++_}
+use mathlib.Core.Path.{_≡_, sym, ap, _∙_}
 use Prim.Native.Nat.{ℕ, zero, suc, _+_, _-_, _≤_, _<_}
 use native.Mathlib.Nat.{add-zero, add-suc}
 use native.Mathlib.Numerals.{add-one}
 use native.Mathlib.Omega.{arith}
-use lib.ListN.{length, getD, take, drop, set}
-use lib.Seq.{slice, slice-empty, sets, take-add, drop-append-le, drop-at, length-take-le}
+use lib.ListN.{length, take, drop}
+use lib.Seq.{slice, slice-empty, take-add, drop-append-le, drop-at, length-take-le}
 use Rattle.vector.specs.Flat.{rows}
 use Rattle.accept.proofs.Starts.{not-falling}
 

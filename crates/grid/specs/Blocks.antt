@@ -1,17 +1,15 @@
 -- The numbers near a point: document 01, 'The reading' (cells within one of the point's cell, z outermost, x innermost, and point numbers in list order) and 'The grid' (the near
 -- list, for a reach). Definitions only.
-use mathlib.Core.List.{List, _++_}
+use mathlib.Core.List.{List}
 use Prim.Native.Nat.{ℕ, _+_, _-_, _*_, _<_, _≤_, min}
 use lib.Ieee.{Float}
-use lib.ListN.{length, drop}
+use lib.ListN.{length}
 use lib.Seq.{slice}
 use Rattle.float.specs.Arithmetic.{_/f_, 1f}
 use Rattle.vector.specs.declared.Vec3.{Vec3}
 use Rattle.vector.specs.Flat.{rows}
 use Rattle.accept.specs.Tables.{numberAt}
 use Rattle.grid.specs.declared.Block.{Block}
-use Rattle.grid.specs.declared.Cell.{Cell}
-use Rattle.grid.specs.declared.Dims.{Dims}
 use Rattle.grid.specs.Cells.{dimsOf, cellOf, cellNumber}
 
 -- a grid as it is lent: n points, where each cell's numbers begin, the numbers, the box, and the size of a cell

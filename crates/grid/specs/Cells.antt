@@ -1,6 +1,5 @@
 -- The cells of a grid: document 01, 'The grid'. Each dimension is ceil(extent × (1 / cell)) clamped to 1..512, and coordinates clamp into the grid. Definitions only.
 use mathlib.Core.List.{List}
-use mathlib.Core.Path.{_≡_}
 use Prim.Native.Nat.{ℕ, _+_, _*_, _≤_, _<_}
 use lib.Ieee.{Float}
 use Rattle.float.specs.Arithmetic.{_-f_, _*f_, _/f_, 1f}

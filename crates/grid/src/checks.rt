@@ -14,7 +14,6 @@ use accept::unless;
 use accept::within;
 use vector::Vec3;
 ghost use mathlib.Core.Path.{_≡_};
-ghost use lib.ListN.{length};
 ghost use Rattle.grid.specs.Checks.{sized, buildRefusal, refusal, gridIn};
 
 // The number that refuses a call on this grid, 0 if none does. The call's own tests of 2, 3, 4 and

@@ -3,9 +3,8 @@ use crate::Cell;
 use crate::Dims;
 use float::cell_count;
 use vector::Vec3;
-ghost use mathlib.Core.Bool.{true};
 ghost use mathlib.Core.Path.{_≡_};
-ghost use Prim.Native.Nat.{_+_, _*_, _<_, _≤_};
+ghost use Prim.Native.Nat.{_+_, _*_, _<_};
 ghost use lib.ListN.{length};
 ghost use Rattle.grid.specs.Cells.{dimsOf, cells, cellOf, cellNumber, pointCell, Bounded, Within};
 

@@ -13,11 +13,17 @@ ghost use Prim.Native.Nat.{_+_, _*_, _<_, _≤_};
 ghost use lib.ListN.{length};
 ghost use lib.Seq.{slice};
 ghost use Rattle.vector.specs.Flat.{vecAt};
-ghost use Rattle.grid.specs.Blocks.{layerListed, blockListed, Walkable};
+ghost use Rattle.grid.specs.Blocks.{layerListed, blockListed, rowFrom, rowTo, Walkable};
 ghost use Rattle.grid.specs.Checks.{gridOf, gridIn};
 ghost use Rattle.surfel.specs.Gathering.{surfelAt, weighAll, gather};
 ghost use Rattle.surfel.specs.Weighing.{nothing};
 ghost use Rattle.surfel.specs.Lent.{surfelsOf, surfelsIn, Listed, Accepted};
+
+// Places of items, from the first up to the second.
+struct Row {
+    from: usize,
+    to: usize,
+}
 
 // The reading at the point `at` with this normal, of tables that were accepted.
 pub fn read(
@@ -91,13 +97,26 @@ fn weigh_layer(
     let mut sum = before;
     let mut y = 0;
     while y < b.rows {
-        let c = b.first + b.layer_step * z + b.row_step * y;
-        let from = wide(starts[c]);
-        let to = wide(starts[c + b.wide]);
-        sum = weigh_row(n, items, p, normals, irr, from, to, probe, sum);
+        let row = row_at(n, starts, items, b, z, y);
+        sum = weigh_row(n, items, p, normals, irr, row.from, row.to, probe, sum);
         y += 1;
     }
     sum
+}
+
+// Where the numbers of row y of layer z of a block stand in items.
+fn row_at(n: usize, starts: &[u32], items: &[u32], b: Block, z: usize, y: usize) -> Row
+    requires { ⌜ Walkable (now starts) (now items) n b ⌝ }
+    requires { ⌜ z < b .layers ⌝ }
+    requires { ⌜ y < b .rows ⌝ }
+    ensures { λ r. ⌜ r .from ≡ rowFrom (now (starts .entry)) b y z ⌝ }
+    ensures { λ r. ⌜ r .to ≡ rowTo (now (starts .entry)) b y z ⌝ }
+{
+    let c = b.first + b.layer_step * z + b.row_step * y;
+    Row {
+        from: wide(starts[c]),
+        to: wide(starts[c + b.wide]),
+    }
 }
 
 // The surfels whose numbers stand in items from one place up to another, weighed after those of

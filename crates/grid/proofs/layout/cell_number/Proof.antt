@@ -3,7 +3,6 @@ use native.Mathlib.Omega.{arith}
 use mathlib.Core.Path.{refl}
 use Rattle.grid.specs.Cells.{cellNumber}
 use Rattle.grid.proofs.Numbered.{number-parts}
-use borrow.Author.Needs.{needs}
 use Rattle.grid.proofs.layout.cell_number.Statement.{statement}
 use Rattle.grid.proofs.layout.cell_number.Tie as tie
 
