@@ -1,16 +1,14 @@
 -- `surfel::Weighed::reading` meets its contract. The comparison tells whether it is seen. Assumes nothing.
 use borrow.Author.Needs.{needs}
-use Rattle.surfel.specs.Weighing.{reading}
+use Rattle.surfel.proofs.Compared.{seen, unseen}
 use Rattle.surfel.proofs.Weighed.reading.Statement.{statement}
 use Rattle.surfel.proofs.Weighed.reading.Tie as tie
 
 returns : tie.Need-returns
-unfolding reading
-returns c = rw (c .before .if1 .taken, c .over .ensures)
+returns c = seen _ (c .before .if1 .taken) (c .over .ensures)
 
 returns-2 : tie.Need-returns-2
-unfolding reading
-returns-2 c = rw (c .if1 .left)
+returns-2 c = unseen _ (c .if1 .left)
 
 pub reading-spec : {M : Type 1} → statement M
 reading-spec = tie.close (tie.spec (λ c κs. search needs) returns returns-2)
