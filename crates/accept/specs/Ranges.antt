@@ -30,6 +30,10 @@ axis lo hi limit = conj (within lo (neg limit) limit ∷ within hi (neg limit) l
 abbrev pub coordinate : Float → Bool
 coordinate x = within x (neg maxCoordinate) maxCoordinate
 
+-- a list holds n vectors, each float of them a coordinate
+abbrev pub coordinates : List Float → ℕ → Bool
+coordinates l n = floatsWithin l n 3 (neg maxCoordinate) maxCoordinate
+
 -- a point or a normal: three coordinates
 abbrev pub point : Vec3 → Bool
 point p = conj (coordinate (p .x) ∷ coordinate (p .y) ∷ coordinate (p .z) ∷ [])

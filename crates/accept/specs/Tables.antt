@@ -14,6 +14,10 @@ atMost n limit = leb n limit
 unfoldable pub holds : ℕ → ℕ → ℕ → Bool
 holds len n each = leb (n * each) len
 
+-- a list holds n vectors, three floats each
+abbrev pub column : {A : Type 0} → List A → ℕ → Bool
+column l n = holds (length l) n 3
+
 -- each of the first n numbers is below bound
 unfoldable pub allBelow : (ℕ → ℕ) → ℕ → ℕ → Bool
 allBelow f n bound = every (λ k. ltb (f k) bound) n

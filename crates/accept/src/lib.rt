@@ -8,6 +8,7 @@ mod tables;
 pub use ranges::axis;
 pub use ranges::bounds;
 pub use ranges::coordinate;
+pub use ranges::coordinates;
 pub use ranges::floats_within;
 pub use ranges::point;
 pub use ranges::within;

@@ -6,7 +6,7 @@ ghost use mathlib.Core.Path.{_≡_};
 ghost use Prim.Native.Nat.{_≤_};
 ghost use lib.ListN.{length};
 ghost use Rattle.float.specs.Column.{floatAt};
-ghost use Rattle.accept.specs.Ranges.{within, allWithin, floatsWithin, axis, coordinate, point, bounds};
+ghost use Rattle.accept.specs.Ranges.{within, allWithin, floatsWithin, axis, coordinate, coordinates, point, bounds};
 
 // Whether x is from lo to hi, both included. A NaN never is, and an infinity only where an end of
 // the range is infinite.
@@ -53,6 +53,13 @@ pub fn coordinate(x: f32) -> bool
     ensures { λ r. ⌜ r ≡ coordinate x ⌝ }
 {
     within(x, -MAX_COORDINATE, MAX_COORDINATE)
+}
+
+// Whether s holds n vectors, each float of them a coordinate.
+pub fn coordinates(s: &[f32], n: usize) -> bool
+    ensures { λ r. ⌜ r ≡ coordinates (now (s .entry)) n ⌝ }
+{
+    floats_within(s, n, 3, -MAX_COORDINATE, MAX_COORDINATE)
 }
 
 // Whether p serves as a point or a normal: three coordinates.

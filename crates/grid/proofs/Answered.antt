@@ -16,9 +16,11 @@ use Rattle.accept.proofs.Bounded.{at-most-le}
 use Rattle.accept.proofs.Refused.{first-failed-past, first-failed-before}
 use Rattle.grid.specs.declared.NearAnswer.the-variants as Near
 use Rattle.grid.specs.Answers.{nearAnswer}
-use Rattle.grid.specs.Blocks.{Grid, visited, blockNear, blockListed, Walkable, Small}
+use Rattle.grid.specs.Lent.{Grid}
+use Rattle.grid.specs.Visiting.{visited}
+use Rattle.grid.specs.Rows.{blockNear, blockListed, RowsHeld, Small}
 use Rattle.grid.specs.Checks.{tests, refusal}
-use Rattle.grid.proofs.Nearby.{accepted, walkable, small, visited-rows}
+use Rattle.grid.proofs.Nearby.{accepted, rows-held, small, visited-rows}
 
 module _ (g : Grid) (p : Vec3) (reach : ℕ) (list : List ℕ) where
   abbrev number : ℕ
@@ -49,11 +51,11 @@ module _ (g : Grid) (p : Vec3) (reach : ℕ) (list : List ℕ) where
 
   -- a call that is not refused can walk the block, whose numbers are those visited
   pub walked : number ≡ 0
-      → Walkable (g .starts) (g .items) (g .n) (blockNear (g .lo) (g .hi) (g .size) p reach)
-      × Small (g .n) (blockNear (g .lo) (g .hi) (g .size) p reach)
-      × (visited g p reach ≡ blockListed (g .starts) (g .items) (blockNear (g .lo) (g .hi) (g .size) p reach))
+      → RowsHeld (g .starts) (g .items) (g .n) (blockNear (g .lo) (g .hi) (g .side) p reach)
+      × Small (g .n) (blockNear (g .lo) (g .hi) (g .side) p reach)
+      × (visited g p reach ≡ blockListed (g .starts) (g .items) (blockNear (g .lo) (g .hi) (g .side) p reach))
   walked e =
       let passed = accepted g true (atMost reach maxReach) true (point p) e in
       let fits = passed .1 .1 .1 .1 .0 in
       let few = at-most-le (g .n) maxSurfels (and-eq-true-iff (atMost (g .n) maxSurfels) true .0 (passed .0) .0) in
-      (walkable g p reach fits, small g p reach fits few, visited-rows g p reach fits)
+      (rows-held g p reach fits, small g p reach fits few, visited-rows g p reach fits)

@@ -10,7 +10,7 @@ use lib.ListN.{length, getD, set, length-append}
 use lib.Seq.{slice, slice-empty, slice-cons, length-slice, sets}
 use Rattle.vector.specs.Flat.{rows}
 use Rattle.grid.specs.declared.Block.{Block}
-use Rattle.grid.specs.Blocks.{rowFrom, rowTo, rowListed, Walkable}
+use Rattle.grid.specs.Rows.{rowFrom, rowTo, rowListed, RowsHeld}
 use Rattle.grid.proofs.Slices.{slice-join}
 
 -- storing two lists is storing one, and the other after it
@@ -66,6 +66,6 @@ pub rows-counted : {A : Type 0} (f : ℕ → List A) (n : ℕ) {count r : ℕ} �
 rows-counted f n p q = rw (rows-more f n, length-append, p, q)
 
 -- how many numbers a row lists
-pub row-length : (starts items : List ℕ) (n : ℕ) (b : Block) → Walkable starts items n b → (y z : ℕ) → y < b .rows → z < b .layers
+pub row-length : (starts items : List ℕ) (n : ℕ) (b : Block) → RowsHeld starts items n b → (y z : ℕ) → y < b .rows → z < b .layers
     → length (rowListed starts items b z y) ≡ rowTo starts b y z - rowFrom starts b y z
 row-length starts items n b w y z h k = length-slice (rowFrom starts b y z) (rowTo starts b y z) items (omega (arith, w .ends y z h k, w .held))

@@ -1,4 +1,4 @@
--- The cells near a point as rows that follow one another: they lie in the grid, and what is visited are their numbers. Assumes nothing.
+-- The cells near a point as rows of cells that follow one another: they lie in the grid, and what is visited are their numbers. Assumes nothing.
 use mathlib.Core.Bool.{Bool, true, and-eq-true-iff}
 use mathlib.Core.Path.{_≡_, sym, ap, _∙_}
 use Prim.Native.Nat.{ℕ, suc, _+_, _*_, _≤_, _<_}
@@ -10,15 +10,19 @@ use Rattle.float.specs.Arithmetic.{_/f_, 1f}
 use Rattle.vector.specs.declared.Vec3.{Vec3}
 use Rattle.vector.specs.Flat.{rows}
 use Rattle.vector.proofs.Replaced.{rows-same}
+use Rattle.accept.specs.Limits.{maxSurfels}
 use Rattle.accept.specs.Tables.{numberAt, numbersBelow, startsMonotone}
 use Rattle.accept.proofs.Bounded.{numbers-below-at}
 use Rattle.accept.proofs.Refused.{Passed, none-failed}
 use Rattle.accept.proofs.Starts.{Monotone, not-falling, starts-monotone}
 use Rattle.grid.specs.declared.Cell.{Cell}
 use Rattle.grid.specs.declared.Dims.{Dims}
-use Rattle.grid.specs.Blocks.{Grid, firstNear, countNear, listed, visited, blockNear, blockListed, rowCell, Walkable, Small}
-use Rattle.grid.specs.Cells.{dimsOf, cells, cellOf, cellNumber, Within}
-use Rattle.grid.specs.Checks.{cellsOf, listFits, tests, refusal}
+use Rattle.grid.specs.Lent.{Grid, cellsOf}
+use Rattle.grid.specs.Visiting.{firstNear, countNear, listed, visited}
+use Rattle.grid.specs.Rows.{blockNear, blockListed, rowCell, RowsHeld, Small}
+use Rattle.grid.specs.Cells.{dimsOf, cells, cellOf, cellNumber}
+use Rattle.grid.specs.Needs.{Within}
+use Rattle.grid.specs.Checks.{listFits, tests, refusal}
 use Rattle.grid.proofs.Numbered.{dims-bounded, cell-within, row-major}
 use Rattle.grid.proofs.Slices.{rows-join}
 
@@ -61,13 +65,13 @@ near-end c reach dim h = omega arith
 
 module _ (g : Grid) (p : Vec3) (reach : ℕ) (h : listFits g ≡ true) where
   abbrev d : Dims
-  d = dimsOf (g .lo) (g .hi) (g .size)
+  d = dimsOf (g .lo) (g .hi) (g .side)
 
   abbrev c : Cell
-  c = cellOf p (g .lo) (1f /f g .size) d
+  c = cellOf p (g .lo) (1f /f g .side) d
 
   inside : Within d c
-  inside = cell-within p (g .lo) (1f /f g .size) d (dims-bounded (g .lo) (g .hi) (g .size))
+  inside = cell-within p (g .lo) (1f /f g .side) d (dims-bounded (g .lo) (g .hi) (g .side))
 
   starts-fit : (cellsOf g < length (g .starts)) × Monotone (numberAt (g .starts)) (cellsOf g) (g .n)
   unfolding listFits
@@ -89,7 +93,7 @@ module _ (g : Grid) (p : Vec3) (reach : ℕ) (h : listFits g ≡ true) where
   abbrev wide : ℕ
   wide = countNear (c .x) reach (d .x)
 
-  first-row : (j k : ℕ) → rowCell (blockNear (g .lo) (g .hi) (g .size) p reach) j k ≡ first j k
+  first-row : (j k : ℕ) → rowCell (blockNear (g .lo) (g .hi) (g .side) p reach) j k ≡ first j k
   unfolding blockNear
   first-row j k = sym (number-step d (firstNear (c .x) reach) (firstNear (c .y) reach) (firstNear (c .z) reach) j k)
 
@@ -118,7 +122,7 @@ module _ (g : Grid) (p : Vec3) (reach : ℕ) (h : listFits g ≡ true) where
       (omega (arith, starts-fit .1 .inside (first j k + wide) e, items-fit .0))
 
   -- what is visited are the numbers of the rows
-  pub visited-rows : visited g p reach ≡ blockListed (g .starts) (g .items) (blockNear (g .lo) (g .hi) (g .size) p reach)
+  pub visited-rows : visited g p reach ≡ blockListed (g .starts) (g .items) (blockNear (g .lo) (g .hi) (g .side) p reach)
   unfolding visited blockNear
   visited-rows =
       rows-same _ _ (countNear (c .z) reach (d .z))
@@ -126,9 +130,9 @@ module _ (g : Grid) (p : Vec3) (reach : ℕ) (h : listFits g ≡ true) where
       (λ j a. row-joined j k a b ∙ ap (λ (t : ℕ). slice (numberAt (g .starts) t) (numberAt (g .starts) (t + wide)) (g .items)) (sym (first-row j k))))
 
   -- which lie in the tables
-  pub walkable : Walkable (g .starts) (g .items) (g .n) (blockNear (g .lo) (g .hi) (g .size) p reach)
+  pub rows-held : RowsHeld (g .starts) (g .items) (g .n) (blockNear (g .lo) (g .hi) (g .side) p reach)
   unfolding blockNear
-  walkable =
+  rows-held =
       record {
         started = λ j k a b. rw (first-row j k) (omega (arith, row-end j k a b, starts-fit .0));
         rises = λ j k a b. rw (first-row j k) (run (first j k) wide (row-end j k a b));
@@ -137,10 +141,10 @@ module _ (g : Grid) (p : Vec3) (reach : ℕ) (h : listFits g ≡ true) where
       }
 
   -- and there are at most 512 rows and layers
-  pub small : g .n ≤ 400000 → Small (g .n) (blockNear (g .lo) (g .hi) (g .size) p reach)
+  pub small : g .n ≤ maxSurfels → Small (g .n) (blockNear (g .lo) (g .hi) (g .side) p reach)
   unfolding blockNear
   small e =
-      let b = dims-bounded (g .lo) (g .hi) (g .size) in
+      let b = dims-bounded (g .lo) (g .hi) (g .side) in
       record {
         few = e;
         rows-few = omega (arith, near-end (c .y) reach (d .y) (inside .y-in), b .y-to);

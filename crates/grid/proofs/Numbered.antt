@@ -13,14 +13,15 @@ use Rattle.vector.specs.declared.Vec3.{Vec3}
 use Rattle.vector.specs.Flat.{vecAt}
 use Rattle.grid.specs.declared.Cell.{Cell}
 use Rattle.grid.specs.declared.Dims.{Dims}
-use Rattle.grid.specs.Blocks.{firstNear}
-use Rattle.grid.specs.Cells.{dimsOf, cells, cellOf, cellNumber, pointCell, Bounded, Within}
+use Rattle.grid.specs.Visiting.{firstNear}
+use Rattle.grid.specs.Cells.{dimsOf, cells, cellOf, cellNumber, pointCell}
+use Rattle.grid.specs.Needs.{Bounded, Within}
 
 -- a box takes from 1 to 512 cells on each axis
-pub dims-bounded : (lo hi : Vec3) (size : Float) → Bounded (dimsOf lo hi size)
+pub dims-bounded : (lo hi : Vec3) (side : Float) → Bounded (dimsOf lo hi side)
 unfolding dimsOf
-dims-bounded lo hi size =
-    let inv = 1f /f size in
+dims-bounded lo hi side =
+    let inv = 1f /f side in
     let a = count-range ((hi .x -f lo .x) *f inv) in
     let b = count-range ((hi .y -f lo .y) *f inv) in
     let c = count-range ((hi .z -f lo .z) *f inv) in
@@ -88,7 +89,7 @@ pub corner-within : (d : Dims) (c : Cell) (reach : ℕ) → Within d c
 corner-within d c reach w = record { x-in = omega (arith, w .x-in); y-in = omega (arith, w .y-in); z-in = omega (arith, w .z-in) }
 
 -- the dimensions of a box, and the cell of a point in it
-pub found : (lo hi p : Vec3) (size inv : Float) {d : Dims} {c : Cell} → d ≡ dimsOf lo hi size → c ≡ cellOf p lo inv d → Bounded d × Within d c
-found lo hi p size inv {d} e f =
-    let h : Bounded d = rw e (dims-bounded lo hi size) in
+pub found : (lo hi p : Vec3) (side inv : Float) {d : Dims} {c : Cell} → d ≡ dimsOf lo hi side → c ≡ cellOf p lo inv d → Bounded d × Within d c
+found lo hi p side inv {d} e f =
+    let h : Bounded d = rw e (dims-bounded lo hi side) in
     (h, rw f (cell-within p lo inv d h))

@@ -16,18 +16,19 @@ use Rattle.grid.specs.declared.GridAnswer.{GridAnswer}
 use Rattle.grid.specs.declared.GridAnswer.the-variants as Built
 use Rattle.grid.specs.declared.NearAnswer.{NearAnswer}
 use Rattle.grid.specs.declared.NearAnswer.the-variants as Near
-use Rattle.grid.specs.Blocks.{Grid, visited}
+use Rattle.grid.specs.Lent.{Grid}
+use Rattle.grid.specs.Visiting.{visited}
 use Rattle.grid.specs.Building.{gridStarts, gridItems}
 use Rattle.grid.specs.Cells.{dimsOf}
 use Rattle.grid.specs.Checks.{tests, buildRefusal}
 
 -- a grid of n points: the answer, starts and items
 unfoldable pub gridBuildAnswer : ℕ → List Float → Vec3 → Vec3 → Float → List ℕ → List ℕ → GridAnswer × List ℕ × List ℕ
-gridBuildAnswer n p lo hi size starts items =
-    let d = dimsOf lo hi size in
+gridBuildAnswer n p lo hi side starts items =
+    let d = dimsOf lo hi side in
     answered (λ number. (Built.Refused number, starts, items))
-    (Built.Done d, gridStarts n p lo (1f /f size) d starts, gridItems n p lo (1f /f size) d items)
-    (buildRefusal n p lo hi size (length starts) (length items))
+    (Built.Done d, gridStarts n p lo (1f /f side) d starts, gridItems n p lo (1f /f side) d items)
+    (buildRefusal n p lo hi side (length starts) (length items))
 
 -- the numbers near p: the answer and the list; that the list holds them is tested last
 unfoldable pub nearAnswer : Grid → Vec3 → ℕ → List ℕ → NearAnswer × List ℕ

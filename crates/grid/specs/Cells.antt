@@ -1,6 +1,6 @@
 -- The cells of a grid: document 01, 'The grid'. Each dimension is ceil(extent × (1 / cell)) clamped to 1..512, and coordinates clamp into the grid. Definitions only.
 use mathlib.Core.List.{List}
-use Prim.Native.Nat.{ℕ, _+_, _*_, _≤_, _<_}
+use Prim.Native.Nat.{ℕ, _+_, _*_}
 use lib.Ieee.{Float}
 use Rattle.float.specs.Arithmetic.{_-f_, _*f_, _/f_, 1f}
 use Rattle.float.specs.Cells.{cell, cellCount}
@@ -11,18 +11,18 @@ use Rattle.grid.specs.declared.Dims.{Dims}
 
 -- how many cells the box from lo to hi takes on each axis
 unfoldable pub dimsOf : Vec3 → Vec3 → Float → Dims
-dimsOf lo hi size =
+dimsOf lo hi side =
     record {
-      x = cellCount ((hi .x -f lo .x) *f (1f /f size));
-      y = cellCount ((hi .y -f lo .y) *f (1f /f size));
-      z = cellCount ((hi .z -f lo .z) *f (1f /f size));
+      x = cellCount ((hi .x -f lo .x) *f (1f /f side));
+      y = cellCount ((hi .y -f lo .y) *f (1f /f side));
+      z = cellCount ((hi .z -f lo .z) *f (1f /f side));
     }
 
 -- how many cells that makes
 abbrev pub cells : Dims → ℕ
 cells d = d .x * d .y * d .z
 
--- the cell of p, in a grid from lo on with these dimensions; inv is one over the size of a cell
+-- the cell of p, in a grid from lo on with these dimensions; inv is one over the side of a cell
 unfoldable pub cellOf : Vec3 → Vec3 → Float → Dims → Cell
 cellOf p lo inv d =
     record {
@@ -38,18 +38,3 @@ cellNumber d c = c .x + d .x * (c .y + d .y * c .z)
 -- the number of the cell of point i
 unfoldable pub pointCell : List Float → Vec3 → Float → Dims → ℕ → ℕ
 pointCell p lo inv d i = cellNumber d (cellOf (vecAt p i) lo inv d)
-
--- dimensions from 1 to 512
-pub record Bounded (d : Dims) : Type 0 where
-  pub x-from : 1 ≤ d .x
-  pub x-to : d .x ≤ 512
-  pub y-from : 1 ≤ d .y
-  pub y-to : d .y ≤ 512
-  pub z-from : 1 ≤ d .z
-  pub z-to : d .z ≤ 512
-
--- a cell of the grid
-pub record Within (d : Dims) (c : Cell) : Type 0 where
-  pub x-in : c .x < d .x
-  pub y-in : c .y < d .y
-  pub z-in : c .z < d .z

@@ -2,35 +2,21 @@
 use mathlib.Core.Bool.{Bool, _&&_}
 use mathlib.Core.List.{List, [], _∷_}
 use Prim.Native.Nat.{ℕ}
-use denote.Ref.{now}
 use lib.Dec.{leb, ltb}
-use lib.Ieee.{Float, neg}
+use lib.Ieee.{Float}
 use lib.ListN.{length}
 use Rattle.vector.specs.declared.Vec3.{Vec3}
-use Rattle.vector.specs.Flat.{Slice}
 use Rattle.accept.specs.Every.{conj}
-use Rattle.accept.specs.Limits.{maxSurfels, maxCoordinate, minCell, maxCell}
-use Rattle.accept.specs.Ranges.{within, floatsWithin, bounds}
+use Rattle.accept.specs.Limits.{maxSurfels, minCell, maxCell}
+use Rattle.accept.specs.Ranges.{within, bounds, coordinates}
 use Rattle.accept.specs.Refusal.{firstFailed}
-use Rattle.accept.specs.Tables.{atMost, holds, numbersBelow, startsMonotone}
-use Rattle.grid.specs.Blocks.{Grid}
+use Rattle.accept.specs.Tables.{atMost, column, numbersBelow, startsMonotone}
+use Rattle.grid.specs.Lent.{Grid, cellsOf}
 use Rattle.grid.specs.Cells.{dimsOf, cells}
 
--- the grid of these numbers and lists
-abbrev pub gridOf : ℕ → List ℕ → List ℕ → Vec3 → Vec3 → Float → Grid
-gridOf n starts items lo hi size = record { n = n; starts = starts; items = items; lo = lo; hi = hi; size = size }
-
--- the grid that a function was lent
-abbrev pub gridIn : ℕ → Slice ℕ → Slice ℕ → Vec3 → Vec3 → Float → Grid
-gridIn n starts items lo hi size = gridOf n (now (starts .entry)) (now (items .entry)) lo hi size
-
--- how many cells a grid has
-abbrev pub cellsOf : Grid → ℕ
-cellsOf g = cells (dimsOf (g .lo) (g .hi) (g .size))
-
--- 3: the box and the size of a cell
+-- 3: the box and the side of a cell
 unfoldable pub sized : Vec3 → Vec3 → Float → Bool
-sized lo hi size = bounds lo hi && within size minCell maxCell
+sized lo hi side = bounds lo hi && within side minCell maxCell
 
 -- 4: a start for each cell and one more, and n numbers
 unfoldable pub tablesHold : Grid → Bool
@@ -44,7 +30,7 @@ listFits g = startsMonotone (g .starts) (cellsOf g) (g .n) && numbersBelow (g .i
 abbrev pub tests : Grid → Bool → Bool → Bool → Bool → List (ℕ × Bool)
 tests g few ranged lent floats =
     (2, atMost (g .n) maxSurfels && few)
-    ∷ (3, sized (g .lo) (g .hi) (g .size) && ranged)
+    ∷ (3, sized (g .lo) (g .hi) (g .side) && ranged)
     ∷ (4, tablesHold g && lent)
     ∷ (5, floats)
     ∷ (7, listFits g)
@@ -56,12 +42,12 @@ refusal g few ranged lent floats = firstFailed (tests g few ranged lent floats)
 
 -- the tests of n points that are put into a grid, whose slices have these lengths
 abbrev pub buildTests : ℕ → List Float → Vec3 → Vec3 → Float → ℕ → ℕ → List (ℕ × Bool)
-buildTests n p lo hi size starts items =
+buildTests n p lo hi side starts items =
     (2, atMost n maxSurfels)
-    ∷ (3, sized lo hi size)
-    ∷ (4, conj (holds (length p) n 3 ∷ ltb (cells (dimsOf lo hi size)) starts ∷ leb n items ∷ []))
-    ∷ (5, floatsWithin p n 3 (neg maxCoordinate) maxCoordinate)
+    ∷ (3, sized lo hi side)
+    ∷ (4, conj (column p n ∷ ltb (cells (dimsOf lo hi side)) starts ∷ leb n items ∷ []))
+    ∷ (5, coordinates p n)
     ∷ []
 
 unfoldable pub buildRefusal : ℕ → List Float → Vec3 → Vec3 → Float → ℕ → ℕ → ℕ
-buildRefusal n p lo hi size starts items = firstFailed (buildTests n p lo hi size starts items)
+buildRefusal n p lo hi side starts items = firstFailed (buildTests n p lo hi side starts items)

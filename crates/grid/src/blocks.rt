@@ -1,4 +1,4 @@
-// The cells near a point, as rows that follow one another in the list.
+// The cells near a point, as rows of cells that follow one another.
 use crate::Block;
 use crate::Cell;
 use crate::layout::cell_number;
@@ -7,7 +7,8 @@ use crate::layout::dims_of;
 use vector::Vec3;
 ghost use mathlib.Core.Path.{_≡_};
 ghost use Prim.Native.Nat.{_<_};
-ghost use Rattle.grid.specs.Blocks.{firstNear, countNear, blockNear};
+ghost use Rattle.grid.specs.Visiting.{firstNear, countNear};
+ghost use Rattle.grid.specs.Rows.{blockNear};
 
 // The cells within reach of the one that p lies in, in the grid of the box from lo to hi.
 pub fn block_near(lo: Vec3, hi: Vec3, cell: f32, p: Vec3, reach: usize) -> Block

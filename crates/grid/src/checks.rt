@@ -2,10 +2,9 @@
 use crate::layout::cells;
 use accept::at_most;
 use accept::bounds;
-use accept::floats_within;
+use accept::coordinates;
 use accept::holds;
 use accept::limits::MAX_CELL;
-use accept::limits::MAX_COORDINATE;
 use accept::limits::MAX_SURFELS;
 use accept::limits::MIN_CELL;
 use accept::numbers_below;
@@ -14,7 +13,8 @@ use accept::unless;
 use accept::within;
 use vector::Vec3;
 ghost use mathlib.Core.Path.{_≡_};
-ghost use Rattle.grid.specs.Checks.{sized, buildRefusal, refusal, gridIn};
+ghost use Rattle.grid.specs.Checks.{sized, buildRefusal, refusal};
+ghost use Rattle.grid.specs.Lent.{gridIn};
 
 // The number that refuses a call on this grid, 0 if none does. The call's own tests of 2, 3, 4 and
 // 5 are handed in.
@@ -57,7 +57,7 @@ pub fn build_refusal(
 ) -> u32
     ensures { λ r. ⌜ r ≡ buildRefusal n (now (p .entry)) lo hi cell starts items ⌝ }
 {
-    let floats = floats_within(p, n, 3, -MAX_COORDINATE, MAX_COORDINATE);
+    let floats = coordinates(p, n);
     let lent = holds(p.len(), n, 3) & (cells(lo, hi, cell) < starts) & (n <= items);
     let sizes = unless(
         sized(lo, hi, cell),
@@ -67,8 +67,8 @@ pub fn build_refusal(
     unless(at_most(n, MAX_SURFELS), 2, sizes)
 }
 
-// Whether the box and the size of a cell are in their range.
-fn sized(lo: Vec3, hi: Vec3, cell: f32) -> bool
+// Whether the box and the side of a cell are in their range.
+pub fn sized(lo: Vec3, hi: Vec3, cell: f32) -> bool
     ensures { λ r. ⌜ r ≡ sized lo hi cell ⌝ }
 {
     bounds(lo, hi) & within(cell, MIN_CELL, MAX_CELL)

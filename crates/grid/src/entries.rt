@@ -14,7 +14,7 @@ use accept::limits::MAX_REACH;
 use accept::point;
 use vector::Vec3;
 ghost use mathlib.Core.Path.{_≡_};
-ghost use Rattle.grid.specs.Checks.{gridIn};
+ghost use Rattle.grid.specs.Lent.{gridIn};
 ghost use Rattle.grid.specs.Answers.{gridBuildAnswer, nearAnswer};
 
 // Puts n points into the cells of the box from lo to hi: items has their numbers, cell by cell, and

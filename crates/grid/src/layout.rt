@@ -6,7 +6,8 @@ use vector::Vec3;
 ghost use mathlib.Core.Path.{_≡_};
 ghost use Prim.Native.Nat.{_+_, _*_, _<_};
 ghost use lib.ListN.{length};
-ghost use Rattle.grid.specs.Cells.{dimsOf, cells, cellOf, cellNumber, pointCell, Bounded, Within};
+ghost use Rattle.grid.specs.Cells.{dimsOf, cells, cellOf, cellNumber, pointCell};
+ghost use Rattle.grid.specs.Needs.{Bounded, Within};
 
 // How many cells of this size the box from lo to hi takes on each axis, each from 1 to 512.
 pub fn dims_of(lo: Vec3, hi: Vec3, cell: f32) -> Dims

@@ -13,6 +13,7 @@ mod listing;
 
 pub use blocks::block_near;
 pub use checks::refusal;
+pub use checks::sized;
 pub use entries::grid_build;
 pub use entries::near;
 pub use layout::cell_of;

@@ -5,7 +5,8 @@ ghost use mathlib.Core.Path.{_≡_};
 ghost use Prim.Native.Nat.{_+_, _*_, _-_, _<_, _≤_};
 ghost use lib.ListN.{length};
 ghost use lib.Seq.{slice, sets};
-ghost use Rattle.grid.specs.Blocks.{layerListed, blockListed, rowFrom, rowTo, Walkable, Small};
+ghost use Rattle.accept.specs.Limits.{maxSurfels};
+ghost use Rattle.grid.specs.Rows.{layerListed, blockListed, rowFrom, rowTo, RowsHeld, Small};
 
 // Places of items, from the first up to the second.
 struct Row {
@@ -15,7 +16,7 @@ struct Row {
 
 // How many numbers a block lists.
 pub fn count_block(starts: &[u32], items: &[u32], n: usize, b: Block) -> usize
-    requires { ⌜ Walkable (now starts) (now items) n b ⌝ }
+    requires { ⌜ RowsHeld (now starts) (now items) n b ⌝ }
     requires { ⌜ Small n b ⌝ }
     ensures { λ r. ⌜ r ≡ length (blockListed (now (starts .entry)) (now (items .entry)) b) ⌝ }
 {
@@ -30,11 +31,11 @@ pub fn count_block(starts: &[u32], items: &[u32], n: usize, b: Block) -> usize
 
 // How many numbers layer z of a block lists.
 fn count_layer(starts: &[u32], items: &[u32], n: usize, b: Block, z: usize) -> usize
-    requires { ⌜ Walkable (now starts) (now items) n b ⌝ }
+    requires { ⌜ RowsHeld (now starts) (now items) n b ⌝ }
     requires { ⌜ Small n b ⌝ }
     requires { ⌜ z < b .layers ⌝ }
     ensures { λ r. ⌜ r ≡ length (layerListed (now (starts .entry)) (now (items .entry)) b z) ⌝ }
-    ensures { λ r. ⌜ r ≤ 204800000 ⌝ }
+    ensures { λ r. ⌜ r ≤ 512 * maxSurfels ⌝ }
 {
     let mut count = 0;
     let mut y = 0;
@@ -48,7 +49,7 @@ fn count_layer(starts: &[u32], items: &[u32], n: usize, b: Block, z: usize) -> u
 
 // The numbers of a block, listed from place 0 on.
 pub fn list_block(starts: &[u32], items: &[u32], n: usize, b: Block, list: &mut [u32])
-    requires { ⌜ Walkable (now starts) (now items) n b ⌝ }
+    requires { ⌜ RowsHeld (now starts) (now items) n b ⌝ }
     requires { ⌜ length (blockListed (now starts) (now items) b) ≤ length (now list) ⌝ }
     ensures { λ r. ⌜ now (list .exit) ≡ sets (now (list .entry)) 0 (blockListed (now (starts .entry)) (now (items .entry)) b) ⌝ }
 {
@@ -70,7 +71,7 @@ fn list_layer(
     list: &mut [u32],
     at: usize,
 ) -> usize
-    requires { ⌜ Walkable (now starts) (now items) n b ⌝ }
+    requires { ⌜ RowsHeld (now starts) (now items) n b ⌝ }
     requires { ⌜ z < b .layers ⌝ }
     requires { ⌜ at + length (layerListed (now starts) (now items) b z) ≤ length (now list) ⌝ }
     ensures { λ r. ⌜ r ≡ at + length (layerListed (now (starts .entry)) (now (items .entry)) b z) ⌝ }
@@ -103,7 +104,7 @@ fn list_row(items: &[u32], from: usize, to: usize, list: &mut [u32], at: usize)
 
 // Where the numbers of row y of layer z of a block stand in items.
 fn row_at(starts: &[u32], items: &[u32], n: usize, b: Block, z: usize, y: usize) -> Row
-    requires { ⌜ Walkable (now starts) (now items) n b ⌝ }
+    requires { ⌜ RowsHeld (now starts) (now items) n b ⌝ }
     requires { ⌜ z < b .layers ⌝ }
     requires { ⌜ y < b .rows ⌝ }
     ensures { λ r. ⌜ r .from ≡ rowFrom (now (starts .entry)) b y z ⌝ }

@@ -5,13 +5,14 @@ use Prim.Native.Nat.{ℕ}
 use lib.Ieee.{Float}
 use Rattle.vector.specs.declared.Vec3.{Vec3}
 use Rattle.grid.specs.Answers.{gridBuildAnswer, nearAnswer}
-use Rattle.grid.specs.Blocks.{Grid}
+use Rattle.grid.specs.Lent.{Grid}
 use Rattle.grid.specs.declared.Dims.{Dims}
 use Rattle.grid.specs.declared.GridAnswer.{GridAnswer}
 use Rattle.grid.specs.declared.GridAnswer.the-variants as Built
 use Rattle.grid.specs.declared.NearAnswer.{NearAnswer}
 use Rattle.grid.specs.declared.NearAnswer.the-variants as Near
-use Rattle.surfel.specs.Answers.{Probes, gatherAnswer, gatherAllAnswer, seenNumber, seenLight}
+use Rattle.surfel.specs.Checks.{Probes}
+use Rattle.surfel.specs.Answers.{gatherAnswer, gatherAllAnswer, seenNumber, seenLight}
 use Rattle.surfel.specs.Gathering.{Surfels}
 use Rattle.surfel.specs.declared.GatherAllAnswer.{GatherAllAnswer}
 use Rattle.surfel.specs.declared.GatherAllAnswer.the-variants as All

@@ -7,9 +7,9 @@ use surfel::Reading;
 use vector::Vec3;
 ghost use mathlib.Core.Path.{_≡_};
 ghost use Rattle.vector.specs.Vector.{vec};
-ghost use Rattle.grid.specs.Checks.{gridIn};
-ghost use Rattle.surfel.specs.Answers.{probesIn};
-ghost use Rattle.surfel.specs.Lent.{surfelsIn};
+ghost use Rattle.grid.specs.Lent.{gridIn};
+ghost use Rattle.surfel.specs.Checks.{probesIn};
+ghost use Rattle.surfel.specs.Gathering.{surfelsIn};
 ghost use Rattle.interflect.specs.Outs.{dimsOuts, readingOuts};
 ghost use Rattle.interflect.specs.Surfels.{readingLeft, interflectGridBuild, interflectNear, interflectGather, interflectGatherAll};
 
@@ -109,7 +109,7 @@ pub extern "C" fn interflect_near(
 }
 
 // The light at atx aty atz with the normal nx ny nz: seen becomes 1 and x y z the light, or 0 and
-// zeros where no surfel covers the point.
+// zeros where the point is unseen.
 #[no_mangle]
 pub extern "C" fn interflect_gather(
     n: usize,
@@ -204,8 +204,8 @@ fn store_reading(reading: Reading, seen: &mut u32, x: &mut f32, y: &mut f32, z: 
     }
 }
 
-// The light at each of many probes: seen becomes 1 and light the light, or 0 and zeros where no
-// surfel covers the probe.
+// The light at each of many probes: seen becomes 1 and light the light, or 0 and zeros where the
+// probe is unseen.
 #[no_mangle]
 pub extern "C" fn interflect_gather_all(
     n: usize,

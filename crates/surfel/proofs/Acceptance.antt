@@ -9,33 +9,25 @@ use lib.Ieee.{Float}
 use lib.ListN.{length}
 use borrow.Author.Tests.{leb-true}
 use Rattle.accept.specs.Limits.{maxSurfels}
-use Rattle.accept.specs.Tables.{atMost, holds, startsMonotone, numbersBelow}
+use Rattle.accept.specs.Tables.{atMost, holds, startsMonotone, numbersBelow, column}
 use Rattle.accept.proofs.Bounded.{holds-le, numbers-below-at}
 use Rattle.accept.proofs.Every.{conj-each}
-use Rattle.grid.specs.Blocks.{Grid}
+use Rattle.grid.specs.Lent.{Grid, cellsOf}
 use Rattle.grid.specs.Checks as Grids
-use Rattle.grid.specs.Checks.{cellsOf, sized, tablesHold, listFits}
+use Rattle.grid.specs.Checks.{sized, tablesHold, listFits}
 use Rattle.grid.proofs.Nearby.{accepted}
-use Rattle.surfel.specs.Answers.{Probes, probesLent, allRefusal}
-use Rattle.surfel.specs.Checks.{column, coordinates, radiusWithin, columnsHold, placed, refusal}
+use Rattle.surfel.specs.Checks.{Probes, probesLent, allRefusal, radiusWithin, columnsHold, pointsWithin, refusal}
+use Rattle.accept.specs.Ranges.{coordinates}
 use Rattle.surfel.specs.Gathering.{Surfels}
-use Rattle.surfel.specs.Lent.{Listed, Accepted}
+use Rattle.surfel.specs.Needs.{Accepted}
 
 -- the number of a reading, from its own tests and the grid's number
 pub refusal-made : (g : Grid) (s : Surfels) (radius : Float) (few lent floats : Bool) {p n i points facing ranged : Bool} {r : ℕ}
     → p ≡ column (s .p) (g .n) → n ≡ column (s .normals) (g .n) → i ≡ column (s .irr) (g .n)
     → points ≡ coordinates (s .p) (g .n) → facing ≡ coordinates (s .normals) (g .n) → ranged ≡ radiusWithin radius
     → r ≡ Grids.refusal g few ranged (p && n && i && lent) (points && facing && floats) → r ≡ refusal g s radius few lent floats
-unfolding columnsHold placed refusal
+unfolding columnsHold pointsWithin refusal
 refusal-made g s radius few lent floats a b c d e f h = rw (h, a, b, c, d, e, f)
-
--- tables that were accepted are listed
-pub listed : (g : Grid) (s : Surfels) → Accepted g s → Listed (g .n) (g .items) s
-unfolding listFits
-listed g s a =
-    let both = and-eq-true-iff (startsMonotone (g .starts) (cellsOf g) (g .n)) (numbersBelow (g .items) (g .n) (g .n)) .0 (a .fits) in
-    let h = numbers-below-at (g .items) (g .n) (g .n) (both .1) in
-    record { held = h .0; below = h .1; points = a .points; facing = a .facing; lit = a .lit }
 
 -- a slice that holds n vectors has their floats
 three-each : (len n : ℕ) → holds len n 3 ≡ true → 3 * n ≤ len
@@ -47,7 +39,7 @@ pub record Answered (g : Grid) (s : Surfels) (radius : Float) (few lent floats :
   pub radius-passed : radiusWithin radius ≡ true
   pub columns-passed : columnsHold (g .n) s ≡ true
   pub lent-passed : lent ≡ true
-  pub placed-passed : placed (g .n) s ≡ true
+  pub points-passed : pointsWithin (g .n) s ≡ true
   pub floats-passed : floats ≡ true
   pub fits-passed : listFits g ≡ true
 
@@ -55,33 +47,40 @@ pub record Answered (g : Grid) (s : Surfels) (radius : Float) (few lent floats :
 pub not-refused : (g : Grid) (s : Surfels) (radius : Float) (few lent floats : Bool) → refusal g s radius few lent floats ≡ 0 → Answered g s radius few lent floats
 unfolding refusal
 not-refused g s radius few lent floats e =
-    let t = accepted g few (radiusWithin radius) (columnsHold (g .n) s && lent) (placed (g .n) s && floats) e in
+    let t = accepted g few (radiusWithin radius) (columnsHold (g .n) s && lent) (pointsWithin (g .n) s && floats) e in
     let counts = and-eq-true-iff (atMost (g .n) maxSurfels) few .0 (t .0) in
-    let ranges = and-eq-true-iff (sized (g .lo) (g .hi) (g .size)) (radiusWithin radius) .0 (t .1 .0) in
+    let ranges = and-eq-true-iff (sized (g .lo) (g .hi) (g .side)) (radiusWithin radius) .0 (t .1 .0) in
     let lengths = and-eq-true-iff (tablesHold g) (columnsHold (g .n) s && lent) .0 (t .1 .1 .0) in
     let columns = and-eq-true-iff (columnsHold (g .n) s) lent .0 (lengths .1) in
-    let within = and-eq-true-iff (placed (g .n) s) floats .0 (t .1 .1 .1 .0) in
+    let within = and-eq-true-iff (pointsWithin (g .n) s) floats .0 (t .1 .1 .1 .0) in
     record {
       few-passed = counts .1;
       radius-passed = ranges .1;
       columns-passed = columns .0;
       lent-passed = columns .1;
-      placed-passed = within .0;
+      points-passed = within .0;
       floats-passed = within .1;
       fits-passed = t .1 .1 .1 .1 .0;
     }
 
 -- and so its tables are accepted
 pub answered-accepted : (g : Grid) (s : Surfels) (radius : Float) (few lent floats : Bool) → refusal g s radius few lent floats ≡ 0 → Accepted g s
-unfolding columnsHold
+unfolding columnsHold listFits
 answered-accepted g s radius few lent floats e =
     let a = not-refused g s radius few lent floats e in
+    let fits = and-eq-true-iff (startsMonotone (g .starts) (cellsOf g) (g .n)) (numbersBelow (g .items) (g .n) (g .n)) .0 (a .fits-passed) in
+    let numbers = numbers-below-at (g .items) (g .n) (g .n) (fits .1) in
     let h = conj-each (column (s .p) (g .n) ∷ column (s .normals) (g .n) ∷ column (s .irr) (g .n) ∷ []) (a .columns-passed) in
     record {
       fits = a .fits-passed;
-      points = three-each (length (s .p)) (g .n) (h .0);
-      facing = three-each (length (s .normals)) (g .n) (h .1 .0);
-      lit = three-each (length (s .irr)) (g .n) (h .1 .1 .0);
+      listed =
+      record {
+        held = numbers .0;
+        below = numbers .1;
+        p-held = three-each (length (s .p)) (g .n) (h .0);
+        normals-held = three-each (length (s .normals)) (g .n) (h .1 .0);
+        irr-held = three-each (length (s .irr)) (g .n) (h .1 .1 .0);
+      };
     }
 
 -- slices that hold the probes have room for what is seen, and for the light

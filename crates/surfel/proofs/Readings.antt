@@ -1,4 +1,4 @@
--- What the definitions of the reading say, read back: when a point is unseen, that many readings are the single ones, and that the two decimals are the nearest floats. Assumes nothing.
+-- What the definitions of the reading say, read back: when a point is unseen, that many readings are the single ones, and that the two decimals are the nearestTo floats. Assumes nothing.
 use mathlib.Core.Bool.{Bool, true, false, cond, _&&_, and-eq-true-iff}
 use mathlib.Core.List.{List, [], _∷_}
 use mathlib.Core.Logic.{_↔_}
@@ -8,25 +8,27 @@ use native.Mathlib.Omega.{arith}
 use lib.Dec.{eqb}
 use lib.Ieee.{Float, binary32, nan, lt, neg, ofBits, ofFields, round, units, odd, span, climb, size}
 use lib.ListN.{length, getD}
-use borrow.Author.Tests.{eqb-true}
-use Rattle.float.specs.Column.{floatAt}
+use borrow.Author.Tests.{eqb-true, ne-eqb}
+use Rattle.float.specs.Arithmetic.{_*f_}
 use Rattle.vector.specs.declared.Vec3.{Vec3}
 use Rattle.vector.specs.Flat.{vecAt, filled, written}
 use Rattle.vector.proofs.Replaced.{at-filled, at-written}
 use Rattle.accept.specs.Limits.{maxCoordinate, maxSurfels}
-use Rattle.accept.specs.Ranges.{within, point}
+use Rattle.accept.specs.Ranges.{within, point, coordinates}
 use Rattle.accept.specs.Tables.{atMost}
-use Rattle.accept.proofs.Bounded.{floats-within-at}
-use Rattle.grid.specs.Blocks.{Grid, visited}
+use Rattle.accept.proofs.Bounded.{coordinates-at}
+use Rattle.grid.specs.Lent.{Grid}
+use Rattle.grid.specs.Visiting.{visited}
 use Rattle.surfel.specs.declared.GatherAllAnswer.{GatherAllAnswer}
 use Rattle.surfel.specs.declared.GatherAllAnswer.the-variants as All
 use Rattle.surfel.specs.declared.GatherAnswer.the-variants as One
+use Rattle.surfel.specs.declared.Reading.{Reading}
 use Rattle.surfel.specs.declared.Reading.the-variants.{Seen, Unseen}
 use Rattle.surfel.specs.declared.Weighed.{Weighed}
-use Rattle.surfel.specs.Answers.{Probes, probesLent, readingAt, seenNumber, seenLight, gatherAnswer, gatherAllAnswer}
-use Rattle.surfel.specs.Checks.{coordinates, refusal}
-use Rattle.surfel.specs.Gathering.{Surfels, gather}
-use Rattle.surfel.specs.Weighing.{leastAlign, leastWeight, reading}
+use Rattle.surfel.specs.Checks.{Probes, probesLent, refusal, allRefusal}
+use Rattle.surfel.specs.Answers.{readingAt, seenNumber, seenLight, gatherAnswer, gatherAllAnswer}
+use Rattle.surfel.specs.Gathering.{Surfels, weighAll, gather}
+use Rattle.surfel.specs.Weighing.{alignLimit, weightLimit, reading, nothing}
 use Rattle.surfel.proofs.Acceptance.{not-refused}
 
 -- ---- unseen
@@ -37,7 +39,7 @@ unseen-by true light e = absurd (let z : _≡_ {A = ℕ} 0 1 = cc in omega arith
 unseen-by false light e = refl
 
 -- unseen if and only if the sum of the weights does not exceed 0.000001
-pub unseen-iff : (a : Weighed) → (reading a ≡ Unseen) ↔ (lt leastWeight (a .weight) ≡ false)
+pub unseen-iff : (a : Weighed) → (reading a ≡ Unseen) ↔ (lt weightLimit (a .weight) ≡ false)
 unfolding reading
 unseen-iff a = (λ e. unseen-by _ _ e, λ e. rw e)
 
@@ -46,18 +48,31 @@ pub nan-unseen : (a : Weighed) → a .weight ≡ nan → reading a ≡ Unseen
 unfolding reading lt ofBits ofFields
 nan-unseen a e = rw e
 
+-- the sums of the surfels that a reading visits
+abbrev pub weighedAt : Grid → Surfels → Vec3 → Vec3 → Float → Weighed
+weighedAt g s at normal radius = weighAll s (record { p = at; n = normal; r2 = radius *f radius }) nothing (visited g at 1)
+
+-- a point is unseen if and only if their weights do not exceed 0.000001
+pub gather-unseen : (g : Grid) (s : Surfels) (at normal : Vec3) (radius : Float)
+    → (gather g s at normal radius ≡ Unseen) ↔ (lt weightLimit (weighedAt g s at normal radius .weight) ≡ false)
+unfolding gather
+gather-unseen g s at normal radius = unseen-iff (weighedAt g s at normal radius)
+
 -- where no surfel is visited, the point is unseen
 pub none-visited : (g : Grid) (s : Surfels) (at normal : Vec3) (radius : Float) → visited g at 1 ≡ [] → gather g s at normal radius ≡ Unseen
 unfolding gather reading lt ofBits ofFields
 none-visited g s at normal radius e = rw e
 
--- ---- many readings
+-- a reading is told by what is written of it
+pub seen-back : (r : Reading) → seenNumber r ≡ 1 → r ≡ Seen (seenLight r)
+seen-back (Seen light) e = refl
+seen-back Unseen e = absurd (omega arith)
 
--- each vector of coordinates is a point
-point-of : (l : List Float) (n : ℕ) → coordinates l n ≡ true → (i : ℕ) → i < n → point (vecAt l i) ≡ true
-point-of l n e i h =
-    let w : (k : ℕ) → k < n * 3 → within (floatAt l k) (neg maxCoordinate) maxCoordinate ≡ true = floats-within-at l n 3 (neg maxCoordinate) maxCoordinate e .1 in
-    rw (w (3 * i) (omega arith), w (3 * i + 1) (omega arith), w (3 * i + 2) (omega arith))
+pub unseen-back : (r : Reading) → seenNumber r ≡ 0 → r ≡ Unseen
+unseen-back (Seen light) e = absurd (omega arith)
+unseen-back Unseen e = refl
+
+-- ---- many readings
 
 -- where one call on these tables is not refused, no other is whose own tests pass
 also-accepted : (g : Grid) (s : Surfels) (radius : Float) (few lent floats also : Bool) → refusal g s radius few lent floats ≡ 0 → also ≡ true → refusal g s radius true true also ≡ 0
@@ -93,6 +108,12 @@ module _ (g : Grid) (s : Surfels) (q : Probes) (seen : List ℕ) (light : List F
   unfolding gatherAllAnswer
   all-done e = rw (zero-number e)
 
+  -- readings that are refused leave the slices as they were
+  pub all-refused : (allRefusal g s q (length seen) (length light) ≡ 0 → ⊥)
+      → gatherAllAnswer g s q seen light ≡ (All.Refused (allRefusal g s q (length seen) (length light)), seen, light)
+  unfolding gatherAllAnswer
+  all-refused h = rw (ne-eqb (allRefusal g s q (length seen) (length light)) 0 h)
+
   module _ (e : gatherAllAnswer g s q seen light .0 ≡ All.Done) (i : ℕ) (h : i < q .count) where
     -- what is seen of probe i is what the reading there sees
     pub seen-at : getD (gatherAllAnswer g s q seen light .1) i 0 ≡ seenNumber (readingAt g s q i)
@@ -108,18 +129,18 @@ module _ (g : Grid) (s : Surfels) (q : Probes) (seen : List ℕ) (light : List F
     single-at =
         let z = zero-number e in
         let both = and-eq-true-iff (coordinates (q .p) (q .count)) (coordinates (q .normals) (q .count)) .0 (not-refused g s (q .radius) few lent floats z .floats-passed) in
-        let at = point-of (q .p) (q .count) (both .0) i h in
-        let normal = point-of (q .normals) (q .count) (both .1) i h in
+        let at = coordinates-at (q .p) (q .count) (both .0) i h in
+        let normal = coordinates-at (q .normals) (q .count) (both .1) i h in
         let floats-at = point (vecAt (q .p) i) && point (vecAt (q .normals) i) in
         rw (also-accepted g s (q .radius) few lent floats floats-at z (rw at normal))
 
 -- ---- the decimals
 
--- the float nearest p / q
-abbrev nearest : ℕ → ℕ → Float
-nearest p q = round binary32 false p q
+-- the float nearestTo p / q
+abbrev nearestTo : ℕ → ℕ → Float
+nearestTo p q = round binary32 false p q
 
 -- 0.15 and 0.000001
-pub decimals-nearest : leastAlign ∷ leastWeight ∷ [] ≡ nearest 15 100 ∷ nearest 1 1000000 ∷ []
+pub decimals-nearest : alignLimit ∷ weightLimit ∷ [] ≡ nearestTo 15 100 ∷ nearestTo 1 1000000 ∷ []
 unfolding ofBits ofFields round units odd span climb size
 decimals-nearest = refl

@@ -1,11 +1,13 @@
 -- The reading at a point: document 01, 'The reading'. Definitions only.
 use mathlib.Core.List.{List, foldl}
 use Prim.Native.Nat.{ℕ}
+use denote.Ref.{now}
 use lib.Ieee.{Float}
 use Rattle.float.specs.Arithmetic.{_*f_}
 use Rattle.vector.specs.declared.Vec3.{Vec3}
-use Rattle.vector.specs.Flat.{vecAt}
-use Rattle.grid.specs.Blocks.{Grid, visited}
+use Rattle.vector.specs.Flat.{Slice, vecAt}
+use Rattle.grid.specs.Lent.{Grid}
+use Rattle.grid.specs.Visiting.{visited}
 use Rattle.surfel.specs.declared.Probe.{Probe}
 use Rattle.surfel.specs.declared.Reading.{Reading}
 use Rattle.surfel.specs.declared.Surfel.{Surfel}
@@ -17,6 +19,14 @@ pub record Surfels : Type 0 where
   pub p : List Float
   pub normals : List Float
   pub irr : List Float
+
+-- the surfels of these columns
+abbrev pub surfelsOf : List Float → List Float → List Float → Surfels
+surfelsOf p normals irr = record { p = p; normals = normals; irr = irr }
+
+-- the surfels that a function was lent
+abbrev pub surfelsIn : Slice Float → Slice Float → Slice Float → Surfels
+surfelsIn p normals irr = surfelsOf (now (p .entry)) (now (normals .entry)) (now (irr .entry))
 
 -- surfel number i
 abbrev pub surfelAt : Surfels → ℕ → Surfel

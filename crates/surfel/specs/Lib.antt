@@ -1,6 +1,6 @@
 -- The definitions that the contracts of `surfel` cite.
 pub mod Weighing
 pub mod Gathering
-pub mod Lent
+pub mod Needs
 pub mod Checks
 pub mod Answers

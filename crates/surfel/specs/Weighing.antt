@@ -10,17 +10,17 @@ use Rattle.surfel.specs.declared.Reading.the-variants.{Seen, Unseen}
 use Rattle.surfel.specs.declared.Surfel.{Surfel}
 use Rattle.surfel.specs.declared.Weighed.{Weighed}
 
--- 0.15, which the dot product of the normals has to pass
-abbrev pub leastAlign : Float
-leastAlign = ofBits binary32 0x3e19_999a
+-- 0.15, which the dot product of the normals has to exceed
+abbrev pub alignLimit : Float
+alignLimit = ofBits binary32 0x3e19_999a
 
 -- 0.000001, which the sum of the weights has to exceed
-abbrev pub leastWeight : Float
-leastWeight = ofBits binary32 0x3586_37bd
+abbrev pub weightLimit : Float
+weightLimit = ofBits binary32 0x3586_37bd
 
 -- a surfel counts if its squared distance is at most the radius squared and its normal's dot with the probe's is over 0.15
 abbrev pub countsAt : Float → Float → Float → Bool
-countsAt d2 r2 align = le d2 r2 && lt leastAlign align
+countsAt d2 r2 align = le d2 r2 && lt alignLimit align
 
 -- t × t × dot, with t = 1 − squared distance / radius squared
 unfoldable pub weight : Float → Float → Float → Float
@@ -43,4 +43,4 @@ nothing = record { light = zeroVec; weight = 0f }
 
 -- seen with the weighted sum over the weight sum if that exceeds 0.000001, else unseen; a NaN sum does not exceed it
 unfoldable pub reading : Weighed → Reading
-reading a = cond (lt leastWeight (a .weight)) (Seen (over (a .light) (a .weight))) Unseen
+reading a = cond (lt weightLimit (a .weight)) (Seen (over (a .light) (a .weight))) Unseen

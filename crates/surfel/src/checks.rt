@@ -1,17 +1,15 @@
 // Which number refuses a reading.
 use accept::at_most;
-use accept::floats_within;
+use accept::coordinates;
 use accept::holds;
-use accept::limits::MAX_COORDINATE;
 use accept::limits::MAX_RADIUS;
 use accept::limits::MAX_SURFELS;
 use accept::within;
 use vector::Vec3;
 ghost use mathlib.Core.Path.{_≡_};
-ghost use Rattle.grid.specs.Checks.{gridIn};
-ghost use Rattle.surfel.specs.Lent.{surfelsIn};
-ghost use Rattle.surfel.specs.Checks.{refusal};
-ghost use Rattle.surfel.specs.Answers.{probesIn, probesLent, allRefusal};
+ghost use Rattle.grid.specs.Lent.{gridIn};
+ghost use Rattle.surfel.specs.Gathering.{surfelsIn};
+ghost use Rattle.surfel.specs.Checks.{radiusWithin, refusal, probesIn, probesLent, allRefusal};
 
 // The number that refuses a reading of these surfels, 0 if none does. The tests of the call's own
 // probes are handed in: few (2), lent (4) and floats (5).
@@ -33,8 +31,8 @@ pub fn refusal(
     ensures { λ r. ⌜ r ≡ refusal (gridIn n starts items lo hi cell) (surfelsIn p normals irr) radius few lent floats ⌝ }
 {
     let columns = holds(p.len(), n, 3) & holds(normals.len(), n, 3) & holds(irr.len(), n, 3);
-    let points = floats_within(p, n, 3, -MAX_COORDINATE, MAX_COORDINATE);
-    let facing = floats_within(normals, n, 3, -MAX_COORDINATE, MAX_COORDINATE);
+    let points = coordinates(p, n);
+    let facing = coordinates(normals, n);
     grid::refusal(
         n,
         starts,
@@ -43,10 +41,17 @@ pub fn refusal(
         hi,
         cell,
         few,
-        within(radius, 0.0, MAX_RADIUS),
+        radius_within(radius),
         columns & lent,
         points & facing & floats,
     )
+}
+
+// Whether a radius is in its range.
+pub fn radius_within(radius: f32) -> bool
+    ensures { λ r. ⌜ r ≡ radiusWithin radius ⌝ }
+{
+    within(radius, 0.0, MAX_RADIUS)
 }
 
 // The number that refuses the readings at these probes, into slices of these lengths, 0 if none does.
@@ -67,12 +72,13 @@ pub fn all_refusal(
     seen: usize,
     light: usize,
 ) -> u32
-    ensures { λ r. ⌜ r ≡ allRefusal (gridIn n starts items lo hi cell) (surfelsIn p normals irr) (probesIn probes «probe_p» «probe_normals» radius) seen light ⌝ }
+    ensures { λ r. ⌜ r
+        ≡ allRefusal (gridIn n starts items lo hi cell) (surfelsIn p normals irr) (probesIn probes «probe_p» «probe_normals» radius) seen light ⌝ }
 {
     let few = at_most(probes, MAX_SURFELS);
     let lent = probes_lent(probes, probe_p.len(), probe_normals.len(), seen, light);
-    let points = floats_within(probe_p, probes, 3, -MAX_COORDINATE, MAX_COORDINATE);
-    let facing = floats_within(probe_normals, probes, 3, -MAX_COORDINATE, MAX_COORDINATE);
+    let points = coordinates(probe_p, probes);
+    let facing = coordinates(probe_normals, probes);
     let floats = points & facing;
     refusal(
         n,

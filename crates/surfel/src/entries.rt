@@ -5,13 +5,14 @@ use crate::GatherAnswer;
 use crate::checks::all_refusal;
 use crate::checks::refusal;
 use crate::gathering::read;
-use crate::sheet::read_each;
+use crate::probes::read_each;
 use accept::point;
 use vector::Vec3;
 ghost use mathlib.Core.Path.{_≡_};
-ghost use Rattle.grid.specs.Checks.{gridIn};
-ghost use Rattle.surfel.specs.Lent.{surfelsIn};
-ghost use Rattle.surfel.specs.Answers.{gatherAnswer, gatherAllAnswer, probesIn};
+ghost use Rattle.grid.specs.Lent.{gridIn};
+ghost use Rattle.surfel.specs.Gathering.{surfelsIn};
+ghost use Rattle.surfel.specs.Answers.{gatherAnswer, gatherAllAnswer};
+ghost use Rattle.surfel.specs.Checks.{probesIn};
 
 // The light at the point `at` with this normal.
 pub fn gather(
@@ -86,7 +87,8 @@ pub fn gather_all(
     light: &mut [f32],
 ) -> GatherAllAnswer
     ensures { λ r. ⌜ (r, now (seen .exit), now (light .exit))
-        ≡ gatherAllAnswer (gridIn n starts items lo hi cell) (surfelsIn p normals irr) (probesIn probes «probe_p» «probe_normals» radius) (now (seen .entry)) (now (light .entry)) ⌝ }
+        ≡ gatherAllAnswer (gridIn n starts items lo hi cell) (surfelsIn p normals irr) (probesIn probes «probe_p» «probe_normals» radius)
+        (now (seen .entry)) (now (light .entry)) ⌝ }
 {
     let number = all_refusal(
         n,

@@ -13,11 +13,11 @@ ghost use Prim.Native.Nat.{_+_, _*_, _<_, _≤_};
 ghost use lib.ListN.{length};
 ghost use lib.Seq.{slice};
 ghost use Rattle.vector.specs.Flat.{vecAt};
-ghost use Rattle.grid.specs.Blocks.{layerListed, blockListed, rowFrom, rowTo, Walkable};
-ghost use Rattle.grid.specs.Checks.{gridOf, gridIn};
-ghost use Rattle.surfel.specs.Gathering.{surfelAt, weighAll, gather};
+ghost use Rattle.grid.specs.Rows.{layerListed, blockListed, rowFrom, rowTo, RowsHeld};
+ghost use Rattle.grid.specs.Lent.{gridOf, gridIn};
+ghost use Rattle.surfel.specs.Gathering.{surfelAt, weighAll, gather, surfelsOf, surfelsIn};
 ghost use Rattle.surfel.specs.Weighing.{nothing};
-ghost use Rattle.surfel.specs.Lent.{surfelsOf, surfelsIn, Listed, Accepted};
+ghost use Rattle.surfel.specs.Needs.{Listed, Accepted};
 
 // Places of items, from the first up to the second.
 struct Row {
@@ -63,7 +63,7 @@ fn weigh_block(
     b: Block,
     probe: Probe,
 ) -> Weighed
-    requires { ⌜ Walkable (now starts) (now items) n b ⌝ }
+    requires { ⌜ RowsHeld (now starts) (now items) n b ⌝ }
     requires { ⌜ Listed n (now items) (surfelsOf (now p) (now normals) (now irr)) ⌝ }
     ensures { λ r. ⌜ r ≡ weighAll (surfelsIn p normals irr) probe nothing (blockListed (now (starts .entry)) (now (items .entry)) b) ⌝ }
 {
@@ -89,7 +89,7 @@ fn weigh_layer(
     probe: Probe,
     before: Weighed,
 ) -> Weighed
-    requires { ⌜ Walkable (now starts) (now items) n b ⌝ }
+    requires { ⌜ RowsHeld (now starts) (now items) n b ⌝ }
     requires { ⌜ z < b .layers ⌝ }
     requires { ⌜ Listed n (now items) (surfelsOf (now p) (now normals) (now irr)) ⌝ }
     ensures { λ r. ⌜ r ≡ weighAll (surfelsIn p normals irr) probe before (layerListed (now (starts .entry)) (now (items .entry)) b z) ⌝ }
@@ -106,7 +106,7 @@ fn weigh_layer(
 
 // Where the numbers of row y of layer z of a block stand in items.
 fn row_at(n: usize, starts: &[u32], items: &[u32], b: Block, z: usize, y: usize) -> Row
-    requires { ⌜ Walkable (now starts) (now items) n b ⌝ }
+    requires { ⌜ RowsHeld (now starts) (now items) n b ⌝ }
     requires { ⌜ z < b .layers ⌝ }
     requires { ⌜ y < b .rows ⌝ }
     ensures { λ r. ⌜ r .from ≡ rowFrom (now (starts .entry)) b y z ⌝ }

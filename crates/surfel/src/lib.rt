@@ -5,9 +5,10 @@
 mod checks;
 mod entries;
 mod gathering;
-mod sheet;
+mod probes;
 mod weighing;
 
+pub use checks::radius_within;
 pub use entries::gather;
 pub use entries::gather_all;
 use vector::Vec3;
@@ -33,7 +34,8 @@ pub struct Weighed {
     pub weight: f32,
 }
 
-// The light at a point, or that no surfel covers it.
+// The light at a point, or that it is unseen: the weights of the surfels near it sum to 0.000001 at
+// most.
 pub enum Reading {
     Seen(Vec3),
     Unseen,

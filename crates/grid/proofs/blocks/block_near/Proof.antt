@@ -1,6 +1,6 @@
 -- `grid::blocks::block_near` meets its contract. Every cell that is named is one of the grid. Assumes nothing.
 use native.Mathlib.Omega.{arith}
-use Rattle.grid.specs.Blocks.{blockNear}
+use Rattle.grid.specs.Rows.{blockNear}
 use Rattle.grid.proofs.Numbered.{found, corner-within, layer-few}
 use borrow.Author.Needs.{needs}
 use Rattle.grid.proofs.blocks.block_near.Statement.{statement}

@@ -17,7 +17,7 @@ returns c =
     let u = c .before .before .before .before in
     let ce = u .before .before in
     let a = ce .before .before .before .before .args in
-    let five = first-failed-more 5 _ (ce .before .before .floats-within .ensures) first-failed-none (u .unless .ensures) in
+    let five = first-failed-more 5 _ (ce .before .before .coordinates .ensures) first-failed-none (u .unless .ensures) in
     let lent =
     ap (λ (t : Bool). t && ltb (ce .cells .result) (a .starts) && leb (a .n) (a .items)) (ce .before .holds .ensures)
     ∙ ap (λ (k : ℕ). holds (length (a .p .now)) (a .n) 3 && ltb k (a .starts) && leb (a .n) (a .items)) (ce .cells .ensures)

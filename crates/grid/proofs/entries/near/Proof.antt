@@ -1,7 +1,7 @@
 -- `grid::entries::near` meets its contract. Each way out is a case of the definition; the block's numbers are those visited. Assumes nothing.
 use mathlib.Core.Path.{sym, _∙_}
 use native.Mathlib.Omega.{arith}
-use Rattle.grid.specs.Checks.{gridOf}
+use Rattle.grid.specs.Lent.{gridOf}
 use Rattle.grid.proofs.Answered.{near-refused, near-short, near-done, walked}
 use borrow.Author.Needs.{needs}
 use Rattle.grid.proofs.entries.near.Statement.{statement}

@@ -1,6 +1,6 @@
 -- `grid::layout::cells` meets its contract. No dimension is over 512, so that the products fit. Assumes nothing.
 use native.Mathlib.Omega.{arith}
-use Rattle.grid.specs.Cells.{Bounded}
+use Rattle.grid.specs.Needs.{Bounded}
 use Rattle.grid.proofs.Numbered.{dims-bounded, layer-few, cells-few}
 use borrow.Author.Needs.{needs}
 use Rattle.grid.proofs.layout.cells.Statement.{statement}

@@ -4,7 +4,7 @@ use Prim.Native.Nat.{_*_, _-_, _≤_}
 use native.Mathlib.Omega.{arith}
 use lib.ListN.{length}
 use Rattle.vector.specs.Flat.{rows}
-use Rattle.grid.specs.Blocks.{layerListed}
+use Rattle.grid.specs.Rows.{layerListed}
 use Rattle.grid.proofs.Copied.{rows-counted}
 use borrow.Author.Needs.{needs}
 use Rattle.grid.proofs.listing.count_block.Statement.{statement}

@@ -5,7 +5,7 @@ use native.Mathlib.Omega.{arith}
 use lib.ListN.{length}
 use lib.Seq.{sets}
 use Rattle.vector.specs.Flat.{rows}
-use Rattle.grid.specs.Blocks.{layerListed}
+use Rattle.grid.specs.Rows.{layerListed}
 use Rattle.grid.proofs.Copied.{rows-stored, rows-length}
 use borrow.Author.Needs.{needs}
 use Rattle.grid.proofs.listing.list_block.Statement.{statement}

@@ -6,7 +6,7 @@ use native.Mathlib.Omega.{arith}
 use lib.ListN.{length}
 use lib.Seq.{sets}
 use Rattle.vector.specs.Flat.{rows}
-use Rattle.grid.specs.Blocks.{rowListed}
+use Rattle.grid.specs.Rows.{rowListed}
 use Rattle.grid.proofs.Copied.{row-length, rows-length, rows-stored}
 use borrow.Author.Needs.{needs}
 use Rattle.grid.proofs.listing.list_layer.Statement.{statement}

@@ -1,6 +1,6 @@
 -- `surfel::checks::probes_lent` meets its contract, by that of `holds` for each slice of vectors. Assumes nothing.
 use borrow.Author.Needs.{needs}
-use Rattle.surfel.specs.Answers.{probesLent}
+use Rattle.surfel.specs.Checks.{probesLent}
 use Rattle.surfel.proofs.checks.probes_lent.Statement.{statement}
 use Rattle.surfel.proofs.checks.probes_lent.Tie as tie
 

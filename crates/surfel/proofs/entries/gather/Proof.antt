@@ -3,9 +3,9 @@ use mathlib.Core.Bool.{true, _&&_}
 use mathlib.Core.Path.{sym, _∙_}
 use borrow.Author.Needs.{needs}
 use borrow.Author.Tests.{ne-eqb}
-use Rattle.grid.specs.Checks.{gridOf}
+use Rattle.grid.specs.Lent.{gridOf}
 use Rattle.surfel.specs.Answers.{gatherAnswer}
-use Rattle.surfel.specs.Lent.{surfelsOf}
+use Rattle.surfel.specs.Gathering.{surfelsOf}
 use Rattle.surfel.proofs.Acceptance.{answered-accepted}
 use Rattle.surfel.proofs.entries.gather.Statement.{statement}
 use Rattle.surfel.proofs.entries.gather.Tie as tie

@@ -2,9 +2,10 @@
 use mathlib.Core.Path.{sym, _∙_}
 use borrow.Author.Tests.{ne-eqb}
 use lib.ListN.{length}
-use Rattle.grid.specs.Checks.{gridOf}
-use Rattle.surfel.specs.Answers.{Probes, gatherAllAnswer}
-use Rattle.surfel.specs.Lent.{surfelsOf}
+use Rattle.grid.specs.Lent.{gridOf}
+use Rattle.surfel.specs.Checks.{Probes}
+use Rattle.surfel.specs.Answers.{gatherAllAnswer}
+use Rattle.surfel.specs.Gathering.{surfelsOf}
 use Rattle.surfel.proofs.Acceptance.{all-accepted}
 use borrow.Author.Needs.{needs}
 use Rattle.surfel.proofs.entries.gather_all.Statement.{statement}

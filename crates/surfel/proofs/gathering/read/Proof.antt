@@ -1,10 +1,8 @@
 -- `surfel::gathering::read` meets its contract. What is visited are the numbers of the block's rows. Assumes nothing.
 use borrow.Author.Needs.{needs}
-use Rattle.grid.specs.Checks.{gridOf}
-use Rattle.grid.proofs.Nearby.{walkable, visited-rows}
+use Rattle.grid.specs.Lent.{gridOf}
+use Rattle.grid.proofs.Nearby.{rows-held, visited-rows}
 use Rattle.surfel.specs.Gathering.{gather}
-use Rattle.surfel.specs.Lent.{surfelsOf}
-use Rattle.surfel.proofs.Acceptance.{listed}
 use Rattle.surfel.proofs.gathering.read.Statement.{statement}
 use Rattle.surfel.proofs.gathering.read.Tie as tie
 
@@ -13,7 +11,7 @@ weigh-block-requires c κs =
     let s = c .before .before .before .before .before .before in
     let a = s .args in
     let g = gridOf (a .n) (a .starts .now) (a .items .now) (a .lo) (a .hi) (a .cell) in
-    (rw (c .block-near .ensures) (walkable g (a .at) 1 (s .pre .fits)), listed g (surfelsOf (a .p .now) (a .normals .now) (a .irr .now)) (s .pre))
+    (rw (c .block-near .ensures) (rows-held g (a .at) 1 (s .pre .fits)), s .pre .listed)
 
 returns : tie.Need-returns
 unfolding gather

@@ -4,10 +4,9 @@ use mathlib.Core.Path.{_≡_}
 use native.Mathlib.Omega.{arith}
 use borrow.Author.Needs.{needs}
 use Rattle.vector.specs.Flat.{rows}
-use Rattle.grid.specs.Blocks.{layerListed}
+use Rattle.grid.specs.Rows.{layerListed}
 use Rattle.surfel.specs.Weighing.{nothing}
-use Rattle.surfel.specs.Gathering.{weighAll}
-use Rattle.surfel.specs.Lent.{surfelsOf}
+use Rattle.surfel.specs.Gathering.{weighAll, surfelsOf}
 use Rattle.surfel.proofs.Summed.{weigh-rows-none, weigh-rows-more}
 use Rattle.surfel.proofs.gathering.weigh_block.Statement.{statement}
 use Rattle.surfel.proofs.gathering.weigh_block.Tie as tie

@@ -3,9 +3,8 @@ use mathlib.Core.Path.{_≡_, refl}
 use Prim.Native.Nat.{_-_, _≤_}
 use native.Mathlib.Omega.{arith}
 use Rattle.vector.specs.Flat.{rows}
-use Rattle.grid.specs.Blocks.{rowListed}
-use Rattle.surfel.specs.Gathering.{weighAll}
-use Rattle.surfel.specs.Lent.{surfelsOf}
+use Rattle.grid.specs.Rows.{rowListed}
+use Rattle.surfel.specs.Gathering.{weighAll, surfelsOf}
 use Rattle.surfel.proofs.Summed.{weigh-rows-none, weigh-rows-more}
 use borrow.Author.Needs.{needs}
 use Rattle.surfel.proofs.gathering.weigh_layer.Statement.{statement}

@@ -4,8 +4,7 @@ use lib.Seq.{slice}
 use mathlib.Core.Path.{_≡_, refl}
 use native.Mathlib.Omega.{arith}
 use borrow.Author.Needs.{needs}
-use Rattle.surfel.specs.Gathering.{weighAll}
-use Rattle.surfel.specs.Lent.{surfelsOf}
+use Rattle.surfel.specs.Gathering.{weighAll, surfelsOf}
 use Rattle.surfel.proofs.Summed.{weigh-ended, weigh-next}
 use Rattle.surfel.proofs.gathering.weigh_row.Statement.{statement}
 use Rattle.surfel.proofs.gathering.weigh_row.Tie as tie

@@ -1,4 +1,4 @@
--- `surfel::sheet::read_each` meets its contract. The loop has read and stored the first i probes. Assumes nothing.
+-- `surfel::probes::read_each` meets its contract. The loop has read and stored the first i probes. Assumes nothing.
 use Prim.Native.Nat.{_-_, _≤_}
 use mathlib.Core.Path.{_≡_, refl, _∙_}
 use native.Mathlib.Omega.{arith}
@@ -6,11 +6,11 @@ use lib.ListN.{length, length-set}
 use borrow.Author.Needs.{needs}
 use Rattle.vector.specs.Flat.{filled, written}
 use Rattle.vector.proofs.Replaced.{filled-none, filled-put, written-none, written-put}
-use Rattle.grid.specs.Checks.{gridOf}
+use Rattle.grid.specs.Lent.{gridOf}
 use Rattle.surfel.specs.Answers.{seenNumber, seenLight, readingAt}
-use Rattle.surfel.specs.Lent.{surfelsOf}
-use Rattle.surfel.proofs.sheet.read_each.Statement.{statement}
-use Rattle.surfel.proofs.sheet.read_each.Tie as tie
+use Rattle.surfel.specs.Gathering.{surfelsOf}
+use Rattle.surfel.proofs.probes.read_each.Statement.{statement}
+use Rattle.surfel.proofs.probes.read_each.Tie as tie
 
 abbrev Inv-loop : tie.InvT-loop
 Inv-loop n starts items lo hi cell p normals irr probes probe-p probe-normals radius seen₀ light₀ i₀ seen light i =

@@ -5,9 +5,11 @@ use vector::Vec3;
 ghost use mathlib.Core.Path.{_≡_};
 ghost use Prim.Native.Nat.{_*_, _≤_};
 ghost use lib.ListN.{length};
-ghost use Rattle.grid.specs.Checks.{gridOf, gridIn};
-ghost use Rattle.surfel.specs.Lent.{surfelsOf, surfelsIn, Accepted};
-ghost use Rattle.surfel.specs.Answers.{seenNumber, seenLight, probesIn, allSeen, allLight};
+ghost use Rattle.grid.specs.Lent.{gridOf, gridIn};
+ghost use Rattle.surfel.specs.Gathering.{surfelsOf, surfelsIn};
+ghost use Rattle.surfel.specs.Needs.{Accepted};
+ghost use Rattle.surfel.specs.Answers.{seenNumber, seenLight, allSeen, allLight};
+ghost use Rattle.surfel.specs.Checks.{probesIn};
 
 // The reading at each of the probes.
 pub fn read_each(

@@ -1,7 +1,7 @@
--- `surfel::sheet::seen_light` meets its contract. Each case gives its light. Assumes nothing.
+-- `surfel::probes::seen_light` meets its contract. Each case gives its light. Assumes nothing.
 use borrow.Author.Needs.{needs}
-use Rattle.surfel.proofs.sheet.seen_light.Statement.{statement}
-use Rattle.surfel.proofs.sheet.seen_light.Tie as tie
+use Rattle.surfel.proofs.probes.seen_light.Statement.{statement}
+use Rattle.surfel.proofs.probes.seen_light.Tie as tie
 
 returns-2 : tie.Need-returns-2
 returns-2 c = rw (c .enum-told .given .1)
