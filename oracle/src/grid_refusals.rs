@@ -1,5 +1,5 @@
 //! Document 01's table "Refused calls", the rows that touch a grid and a reading, written from its
-//! text alone. Rows 1, 6 and 8 speak of files, scenes and rows that these calls do not have.
+//! text, but for one reading of ours: probes count as points. Rows 1, 6 and 8 speak of files, scenes and rows that these calls do not have.
 
 use crate::refusals::coordinate;
 use crate::sheets::Sheet;
@@ -34,7 +34,7 @@ pub fn near(s: &Sheet, n: u32, p: Vec3, reach: u32, visited: &dyn Fn() -> usize)
         (3, &|| !boxed(s) || reach > 511),
         (4, &|| short_of_starts(s) || s.lent.items < n as usize),
         (5, &|| !point(p)),
-        (7, &|| miswired(s, n)),
+        (7, &|| misfit(s, n)),
         (4, &|| s.lent.list < visited()),
     ])
 }
@@ -46,11 +46,11 @@ pub fn gather(s: &Sheet, n: u32, at: Vec3, normal: Vec3, radius: f32) -> Option<
         (3, &|| !boxed(s) || !size(radius)),
         (4, &|| short_of_surfels(s, n)),
         (5, &|| !surfels(s, n) || !point(at) || !point(normal)),
-        (7, &|| miswired(s, n)),
+        (7, &|| misfit(s, n)),
     ])
 }
 
-/// Readings at many probes. "Probes count as points in refusal 2."
+/// Readings at many probes, which count as points in refusal 2.
 pub fn gather_all(s: &Sheet, n: u32, probes: u32, radius: f32) -> Option<u32> {
     let many = probes as usize;
     first(&[
@@ -68,7 +68,7 @@ pub fn gather_all(s: &Sheet, n: u32, probes: u32, radius: f32) -> Option<u32> {
                 || !coordinates(&s.probe_p, probes)
                 || !coordinates(&s.probe_normals, probes)
         }),
-        (7, &|| miswired(s, n)),
+        (7, &|| misfit(s, n)),
     ])
 }
 
@@ -128,7 +128,7 @@ fn point(p: Vec3) -> bool {
 }
 
 /// 7: "grid starts not from 0, falling, or not ending at the point count; a grid item ≥ that count".
-fn miswired(s: &Sheet, n: u32) -> bool {
+fn misfit(s: &Sheet, n: u32) -> bool {
     let starts = &s.starts[..cells(s) + 1];
     starts[0] != 0
         || starts.windows(2).any(|pair| pair[1] < pair[0])

@@ -111,11 +111,28 @@ fn reading(s: &Sheet, n: u32, at: Vec3, normal: Vec3, radius: f32) -> Option<Vec
     let grid = grid(s, n);
     let surfels: Vec<Surfel> = (0..n as usize).map(|i| surfel(s, i)).collect();
     let light = gather(&surfels, &grid, at, normal, radius);
-    if weight_sum(&surfels, &grid, at, normal, radius) > 0.000001 {
+    let seen = weight_sum(&surfels, &grid, at, normal, radius) > 0.000001;
+    assert_eq!(seen, seen_by_gather(surfels, &grid, at, normal, radius));
+    if seen {
         return Some(light);
     }
     assert_eq!([light.x, light.y, light.z].map(f32::to_bits), [0; 3]);
     None
+}
+
+/// Whether the Rust's own `gather` divides: where every surfel has an irradiance of 1, the light that
+/// it sums is the weight sum itself, so that it gives exactly 1 where it divides and 0 where not.
+fn seen_by_gather(surfels: Vec<Surfel>, grid: &Grid, p: Vec3, n: Vec3, radius: f32) -> bool {
+    let ones: Vec<Surfel> = surfels
+        .into_iter()
+        .map(|s| Surfel {
+            irr: Vec3::splat(1.0),
+            ..s
+        })
+        .collect();
+    let light = gather(&ones, grid, p, n, radius);
+    assert!(light.x == 0.0 || light.x == 1.0, "{light:?}");
+    light.x == 1.0
 }
 
 /// The weights that `gather` (surfel.rs) sums, in its steps.

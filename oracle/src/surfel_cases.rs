@@ -4,10 +4,10 @@
 mod foreign;
 mod limits;
 mod lists;
+mod misfits;
 mod rooms;
 mod tables;
 mod weights;
-mod wiring;
 
 use crate::answers::word;
 use crate::cases::Case;
@@ -16,7 +16,7 @@ use crate::random::Random;
 use crate::readings;
 use crate::sheets::{Lent, Sheet, LIST, PROBES, STARTS, SURFELS};
 use interflect::Vec3;
-use std::collections::HashMap;
+use std::collections::{HashMap, HashSet};
 
 const NAN: f32 = f32::NAN;
 const INF: f32 = f32::INFINITY;
@@ -31,7 +31,7 @@ pub fn all() -> Vec<Case> {
     weights::write(&mut script);
     foreign::write(&mut script);
     limits::write(&mut script);
-    wiring::write(&mut script);
+    misfits::write(&mut script);
     script.show_all();
     script.list
 }
@@ -87,6 +87,8 @@ struct Script {
     sheet: Sheet,
     stored: HashMap<(&'static str, u32), Vec<u32>>,
     fills: u32,
+    /// The entries and numbers whose refusal was followed by all that the buffers hold.
+    shown: HashSet<(usize, u32)>,
 }
 
 impl Script {
@@ -96,6 +98,7 @@ impl Script {
             sheet: Sheet::new(),
             stored: HashMap::new(),
             fills: 0,
+            shown: HashSet::new(),
         };
         script.lend(Lent::ALL);
         script

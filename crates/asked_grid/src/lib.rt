@@ -1,15 +1,15 @@
 // Questions about a stored grid, and their answers as words.
 mod build;
+mod probes;
 mod read;
-mod sheet;
 mod show;
 mod words;
 
 pub use build::grid_build;
 pub use build::near;
+pub use probes::gather_all;
 pub use read::gather;
 use replay::Words;
-pub use sheet::gather_all;
 pub use show::items;
 pub use show::light;
 pub use show::list;

@@ -74,13 +74,13 @@ answered-accepted g s radius few lent floats e =
     record {
       fits = a .fits-passed;
       listed =
-      record {
-        held = numbers .0;
-        below = numbers .1;
-        p-held = three-each (length (s .p)) (g .n) (h .0);
-        normals-held = three-each (length (s .normals)) (g .n) (h .1 .0);
-        irr-held = three-each (length (s .irr)) (g .n) (h .1 .1 .0);
-      };
+          record {
+            held = numbers .0;
+            below = numbers .1;
+            p-held = three-each (length (s .p)) (g .n) (h .0);
+            normals-held = three-each (length (s .normals)) (g .n) (h .1 .0);
+            irr-held = three-each (length (s .irr)) (g .n) (h .1 .1 .0);
+          };
     }
 
 -- slices that hold the probes have room for what is seen, and for the light

@@ -38,13 +38,25 @@ pub(super) fn tables(script: &mut Script) {
     script.tables(&[0, 2, 3, 5, 6], &[0, 1, 2, 3, 4, 5]);
 }
 
-/// The four entries; what they may have written is shown where one is refused.
+/// The four entries; what they may have written is shown where one is refused, and all that the
+/// buffers hold where an entry is refused with a number for the first time.
 pub(super) fn each(script: &mut Script, n: u32) {
     let mut numbers = vec![script.near(n, P, 1)[0]];
     numbers.push(script.gather(n, P, UP, 1.0)[0]);
     numbers.push(script.gather_all(n, 2, 1.0)[0]);
     numbers.push(script.build(n)[0]);
-    if numbers.iter().any(|&number| number != 0) {
+    let refused = || {
+        numbers
+            .iter()
+            .copied()
+            .enumerate()
+            .filter(|&(_, number)| number != 0)
+    };
+    let first = refused().any(|pair| !script.shown.contains(&pair));
+    script.shown.extend(refused());
+    if first {
+        script.show_all();
+    } else if refused().next().is_some() {
         written(script);
     }
 }

@@ -1,9 +1,9 @@
--- `asked_grid::sheet::gather_all_of` is safe and ends. The first k places of a table that has as many are k. Assumes nothing.
+-- `asked_grid::probes::gather_all_of` is safe and ends. The first k places of a table that has as many are k. Assumes nothing.
 use mathlib.Core.Path.{sym}
 use lib.Seq.{length-take-le}
 use borrow.Author.Needs.{needs}
-use Rattle.asked_grid.proofs.sheet.gather_all_of.Statement.{statement}
-use Rattle.asked_grid.proofs.sheet.gather_all_of.Tie as tie
+use Rattle.asked_grid.proofs.probes.gather_all_of.Statement.{statement}
+use Rattle.asked_grid.proofs.probes.gather_all_of.Tie as tie
 
 slice-aggregate-gather-all : tie.Need-slice-aggregate-gather-all
 slice-aggregate-gather-all c = sym (length-take-le _ _ (search needs))

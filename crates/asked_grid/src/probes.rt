@@ -1,4 +1,4 @@
-// Readings at all of the stored probes.
+// Readings at the first of the stored probes.
 use crate::Asked;
 use crate::part;
 use crate::words;
