@@ -2,7 +2,6 @@
 mod build;
 mod probes;
 mod read;
-mod show;
 mod words;
 
 pub use build::grid_build;
@@ -10,11 +9,6 @@ pub use build::near;
 pub use probes::gather_all;
 pub use read::gather;
 use replay::Words;
-pub use show::items;
-pub use show::light;
-pub use show::list;
-pub use show::seen;
-pub use show::starts;
 use stored_grid::Stored;
 ghost use Prim.Native.Nat.{_≤_};
 

@@ -50,19 +50,19 @@ fn shown(s: Stored, line: &[u8], w: [u32; 16], count: usize) -> Words {
 // What a table holds from a place on.
 fn of_table(s: Stored, line: &[u8], at: usize) -> Words {
     if named(line, b"starts") {
-        return asked_grid::starts(s, at);
+        return stored_grid::starts(s, at);
     }
     if named(line, b"items") {
-        return asked_grid::items(s, at);
+        return stored_grid::items(s, at);
     }
     if named(line, b"list") {
-        return asked_grid::list(s, at);
+        return stored_grid::list(s, at);
     }
     if named(line, b"seen") {
-        return asked_grid::seen(s, at);
+        return stored_grid::seen(s, at);
     }
     if named(line, b"light") {
-        return asked_grid::light(s, at);
+        return stored_grid::light(s, at);
     }
     Words::none()
 }

@@ -2,9 +2,15 @@
 // read them. A word that a line lacks is zero, but `put_starts` and `put_items` store no word that is
 // lacking; what has no place is not stored.
 mod put;
+mod show;
 
 use float::of_bits;
 use replay::named;
+pub use show::items;
+pub use show::light;
+pub use show::list;
+pub use show::seen;
+pub use show::starts;
 use vector::Vec3;
 
 // How many places of each table are lent.

@@ -1,8 +1,8 @@
--- `asked_grid::show::light` is safe and ends. At most sixteen floats are read, each at a place that the table has. Assumes nothing.
+-- `stored_grid::show::light` is safe and ends. At most sixteen floats are read, each at a place that the table has. Assumes nothing.
 use Prim.Native.Nat.{_-_, _≤_}
 use borrow.Author.Needs.{needs}
-use Rattle.asked_grid.proofs.show.light.Statement.{statement}
-use Rattle.asked_grid.proofs.show.light.Tie as tie
+use Rattle.stored_grid.proofs.show.light.Statement.{statement}
+use Rattle.stored_grid.proofs.show.light.Tie as tie
 
 abbrev Inv-loop : tie.InvT-loop
 Inv-loop at table words₀ i₀ words i = i ≤ 16

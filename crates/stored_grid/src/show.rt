@@ -1,6 +1,6 @@
 // What the tables hold: up to 16 words from a place on.
+use crate::Stored;
 use replay::Words;
-use stored_grid::Stored;
 
 // Where cells begin.
 pub fn starts(s: Stored, at: usize) -> Words {
