@@ -3,32 +3,35 @@ use mathlib.Core.Bool.{Bool, true, false, cond, _&&_, and-eq-true-iff}
 use mathlib.Core.List.{List, [], _∷_}
 use mathlib.Core.Logic.{_↔_}
 use mathlib.Core.Path.{_≡_, refl}
-use Prim.Native.Nat.{ℕ, _+_, _*_, _<_}
+use Prim.Native.Nat.{ℕ, suc, _*_, _<_}
 use native.Mathlib.Omega.{arith}
 use lib.Dec.{eqb}
-use lib.Ieee.{Float, binary32, nan, lt, neg, ofBits, ofFields, round, units, odd, span, climb, size}
+use lib.Ieee.{Float, binary32, nan, lt, ofBits, ofFields, round, units, odd, span, climb, size}
 use lib.ListN.{length, getD}
 use borrow.Author.Tests.{eqb-true, ne-eqb}
 use Rattle.float.specs.Arithmetic.{_*f_}
 use Rattle.vector.specs.declared.Vec3.{Vec3}
+use Rattle.vector.specs.Vector.{dot, minus, lengthSquared}
 use Rattle.vector.specs.Flat.{vecAt, filled, written}
 use Rattle.vector.proofs.Replaced.{at-filled, at-written}
-use Rattle.accept.specs.Limits.{maxCoordinate, maxSurfels}
-use Rattle.accept.specs.Ranges.{within, point, coordinates}
-use Rattle.accept.specs.Tables.{atMost}
+use Rattle.accept.specs.Limits.{maxSurfels}
+use Rattle.accept.specs.Ranges.{point, coordinates}
+use Rattle.accept.specs.Tables.{atMost, numberAt}
 use Rattle.accept.proofs.Bounded.{coordinates-at}
 use Rattle.grid.specs.Lent.{Grid}
 use Rattle.grid.specs.Visiting.{visited}
 use Rattle.surfel.specs.declared.GatherAllAnswer.{GatherAllAnswer}
 use Rattle.surfel.specs.declared.GatherAllAnswer.the-variants as All
 use Rattle.surfel.specs.declared.GatherAnswer.the-variants as One
+use Rattle.surfel.specs.declared.Probe.{Probe}
 use Rattle.surfel.specs.declared.Reading.{Reading}
 use Rattle.surfel.specs.declared.Reading.the-variants.{Seen, Unseen}
+use Rattle.surfel.specs.declared.Surfel.{Surfel}
 use Rattle.surfel.specs.declared.Weighed.{Weighed}
 use Rattle.surfel.specs.Checks.{Probes, probesLent, refusal, allRefusal}
 use Rattle.surfel.specs.Answers.{readingAt, seenNumber, seenLight, gatherAnswer, gatherAllAnswer}
-use Rattle.surfel.specs.Gathering.{Surfels, weighAll, gather}
-use Rattle.surfel.specs.Weighing.{alignLimit, weightLimit, reading, nothing}
+use Rattle.surfel.specs.Gathering.{Surfels, surfelAt, weighAll, gather}
+use Rattle.surfel.specs.Weighing.{alignLimit, weightLimit, reading, nothing, countsAt, weigh}
 use Rattle.surfel.proofs.Acceptance.{not-refused}
 
 -- ---- unseen
@@ -62,6 +65,27 @@ gather-unseen g s at normal radius = unseen-iff (weighedAt g s at normal radius)
 pub none-visited : (g : Grid) (s : Surfels) (at normal : Vec3) (radius : Float) → visited g at 1 ≡ [] → gather g s at normal radius ≡ Unseen
 unfolding gather reading lt ofBits ofFields
 none-visited g s at normal radius e = rw e
+
+-- a surfel covers a probe: it counts there
+abbrev pub covers : Probe → Surfel → Bool
+covers probe s = countsAt (lengthSquared (minus (s .p) (probe .p))) (probe .r2) (dot (s .n) (probe .n))
+
+left-out : (probe : Probe) (a : Weighed) (s : Surfel) → covers probe s ≡ false → weigh probe a s ≡ a
+unfolding weigh
+left-out probe a s h = rw h
+
+none-weighed : (s : Surfels) (probe : Probe) (a : Weighed) (l : List ℕ) → ((k : ℕ) → k < length l → covers probe (surfelAt s (numberAt l k)) ≡ false)
+    → weighAll s probe a l ≡ a
+none-weighed s probe a [] h = refl
+none-weighed s probe a (x ∷ l) h =
+    rw (left-out probe a (surfelAt s x) (h 0 (omega arith))) (none-weighed s probe a l (λ k q. h (suc k) (omega arith)))
+
+-- a point that none of the surfels visited covers is unseen
+pub uncovered : (g : Grid) (s : Surfels) (at normal : Vec3) (radius : Float)
+    → ((k : ℕ) → k < length (visited g at 1) → covers (record { p = at; n = normal; r2 = radius *f radius }) (surfelAt s (numberAt (visited g at 1) k)) ≡ false)
+    → gather g s at normal radius ≡ Unseen
+unfolding gather reading lt ofBits ofFields
+uncovered g s at normal radius h = rw (none-weighed s (record { p = at; n = normal; r2 = radius *f radius }) nothing (visited g at 1) h)
 
 -- a reading is told by what is written of it
 pub seen-back : (r : Reading) → seenNumber r ≡ 1 → r ≡ Seen (seenLight r)
