@@ -1,5 +1,5 @@
--- The cells near a point as the loops go over them, and what these loops ask: each row of cells follows one another in the list, so that its numbers stand together. What is visited
--- is defined in Visiting, and proved to be the same (`visited-rows`). Definitions only.
+-- The cells near a point as the loops go over them, and what these loops ask: the cells of a row follow one another, so that the row's numbers stand together in the list. What is
+-- visited is defined in Visiting, and proved to be the same (`visited-rows`). Definitions only.
 use mathlib.Core.List.{List}
 use Prim.Native.Nat.{ℕ, _+_, _*_, _<_, _≤_}
 use lib.Ieee.{Float}
