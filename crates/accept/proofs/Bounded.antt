@@ -28,13 +28,22 @@ pub holds-le : (len n each : ℕ) → holds len n each ≡ true → n * each ≤
 unfolding holds
 holds-le len n each e = leb-true _ _ e
 
+-- a slice that holds n vectors has their floats
+pub three-each : (len n : ℕ) → holds len n 3 ≡ true → 3 * n ≤ len
+three-each len n h = let e = holds-le len n 3 h in omega arith
+
+-- and one that has the places holds the entries
+pub le-holds : (len n each : ℕ) → n * each ≤ len → holds len n each ≡ true
+unfolding holds
+le-holds len n each h = le-leb _ _ h
+
 -- any slice holds entries of no places
 pub holds-none : (len n : ℕ) → true ≡ holds len n 0
 unfolding holds
 holds-none len n = rw mul-zero (sym (le-leb 0 len (omega arith)))
 
 -- two orders that come to the same have the same test
-same-test : (a b c d : ℕ) (s t : Bool) → leb a b ≡ s → leb c d ≡ t → (a ≤ b → c ≤ d) → (c ≤ d → a ≤ b) → s ≡ t
+pub same-test : (a b c d : ℕ) (s t : Bool) → leb a b ≡ s → leb c d ≡ t → (a ≤ b → c ≤ d) → (c ≤ d → a ≤ b) → s ≡ t
 same-test a b c d true true e f p q = refl
 same-test a b c d true false e f p q = absurd (let h = p (leb-true a b e) in omega (arith, leb-false c d f))
 same-test a b c d false true e f p q = absurd (let h = q (leb-true c d f) in omega (arith, leb-false a b e))

@@ -7,19 +7,19 @@ use lib.Ieee.{Float, binary32, ofBits, ofFields, round, units, odd, span, climb,
 use Rattle.accept.specs.Limits.{floatLimits}
 
 -- the float nearest p / q
-abbrev nearest : ℕ → ℕ → Float
-nearest p q = round binary32 false p q
+abbrev pub nearestTo : ℕ → ℕ → Float
+nearestTo p q = round binary32 false p q
 
 pub limits-nearest : floatLimits
-    ≡ nearest 10000 1
-    ∷ nearest 10000 1
-    ∷ nearest 1 1
-    ∷ nearest 1000000 1
-    ∷ nearest 1000000000000 1
-    ∷ nearest 2 1
-    ∷ nearest 1 10000
-    ∷ nearest 10000 1
-    ∷ nearest 10000 1
+    ≡ nearestTo 10000 1
+    ∷ nearestTo 10000 1
+    ∷ nearestTo 1 1
+    ∷ nearestTo 1000000 1
+    ∷ nearestTo 1000000000000 1
+    ∷ nearestTo 2 1
+    ∷ nearestTo 1 10000
+    ∷ nearestTo 10000 1
+    ∷ nearestTo 10000 1
     ∷ []
 unfolding ofBits ofFields round units odd span climb size
 limits-nearest = refl

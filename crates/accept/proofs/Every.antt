@@ -26,6 +26,12 @@ every-at f (suc n) e i h =
     let both = and-eq-true-iff (every f n) (f n) .0 e in
     ⊎-elim (λ q. rw q (both .1)) (λ k. every-at f n (both .0) i k) (eq-or-lt-of-le {n = i} {m = n} (omega arith))
 
+-- only the first n tests count
+pub every-same : (f g : ℕ → Bool) (n : ℕ) → ((i : ℕ) → i < n → f i ≡ g i) → every f n ≡ every g n
+unfolding every
+every-same f g zero h = refl
+every-same f g (suc n) h = rw (every-same f g n (λ i k. h i (omega arith)), h n (omega arith))
+
 -- each test of a list held
 abbrev pub Each : List Bool → Type 0
 Each [] = Unit

@@ -3,5 +3,6 @@ pub mod Every
 pub mod Bounded
 pub mod Starts
 pub mod Joined
+pub mod Agree
 pub mod Refused
 pub mod Decimals

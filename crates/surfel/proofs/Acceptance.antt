@@ -3,14 +3,13 @@ use mathlib.Core.Bool.{Bool, true, _&&_, and-eq-true-iff}
 use mathlib.Core.List.{[], _∷_}
 use mathlib.Core.Path.{_≡_}
 use Prim.Native.Nat.{ℕ, _*_, _≤_}
-use native.Mathlib.Omega.{arith}
 use lib.Dec.{leb}
 use lib.Ieee.{Float}
 use lib.ListN.{length}
 use borrow.Author.Tests.{leb-true}
 use Rattle.accept.specs.Limits.{maxSurfels}
 use Rattle.accept.specs.Tables.{atMost, holds, startsMonotone, numbersBelow, column}
-use Rattle.accept.proofs.Bounded.{holds-le, numbers-below-at}
+use Rattle.accept.proofs.Bounded.{three-each, numbers-below-at}
 use Rattle.accept.proofs.Every.{conj-each}
 use Rattle.grid.specs.Lent.{Grid, cellsOf}
 use Rattle.grid.specs.Checks as Grids
@@ -28,10 +27,6 @@ pub refusal-made : (g : Grid) (s : Surfels) (radius : Float) (few lent floats : 
     → r ≡ Grids.refusal g few ranged (p && n && i && lent) (points && facing && floats) → r ≡ refusal g s radius few lent floats
 unfolding columnsHold pointsWithin refusal
 refusal-made g s radius few lent floats a b c d e f h = rw (h, a, b, c, d, e, f)
-
--- a slice that holds n vectors has their floats
-three-each : (len n : ℕ) → holds len n 3 ≡ true → 3 * n ≤ len
-three-each len n h = let e = holds-le len n 3 h in omega arith
 
 -- each test of a reading that is not refused passed
 pub record Answered (g : Grid) (s : Surfels) (radius : Float) (few lent floats : Bool) : Type 0 where

@@ -1,4 +1,4 @@
--- What the definitions of the reading say, read back: when a point is unseen, that many readings are the single ones, and that the two decimals are the nearestTo floats. Assumes nothing.
+-- What the definitions of the reading say, read back: when a point is unseen, that many readings are the single ones, and that the two decimals are the nearest floats. Assumes nothing.
 use mathlib.Core.Bool.{Bool, true, false, cond, _&&_, and-eq-true-iff}
 use mathlib.Core.List.{List, [], _∷_}
 use mathlib.Core.Logic.{_↔_}
@@ -6,7 +6,7 @@ use mathlib.Core.Path.{_≡_, refl}
 use Prim.Native.Nat.{ℕ, suc, _*_, _<_}
 use native.Mathlib.Omega.{arith}
 use lib.Dec.{eqb}
-use lib.Ieee.{Float, binary32, nan, lt, ofBits, ofFields, round, units, odd, span, climb, size}
+use lib.Ieee.{Float, nan, lt, ofBits, ofFields, round, units, odd, span, climb, size}
 use lib.ListN.{length, getD}
 use borrow.Author.Tests.{eqb-true, ne-eqb}
 use Rattle.float.specs.Arithmetic.{_*f_}
@@ -18,6 +18,7 @@ use Rattle.accept.specs.Limits.{maxSurfels}
 use Rattle.accept.specs.Ranges.{point, coordinates}
 use Rattle.accept.specs.Tables.{atMost, numberAt}
 use Rattle.accept.proofs.Bounded.{coordinates-at}
+use Rattle.accept.proofs.Decimals.{nearestTo}
 use Rattle.grid.specs.Lent.{Grid}
 use Rattle.grid.specs.Visiting.{visited}
 use Rattle.surfel.specs.declared.GatherAllAnswer.{GatherAllAnswer}
@@ -159,10 +160,6 @@ module _ (g : Grid) (s : Surfels) (q : Probes) (seen : List ℕ) (light : List F
         rw (also-accepted g s (q .radius) few lent floats floats-at z (rw at normal))
 
 -- ---- the decimals
-
--- the float nearestTo p / q
-abbrev nearestTo : ℕ → ℕ → Float
-nearestTo p q = round binary32 false p q
 
 -- 0.15 and 0.000001
 pub decimals-nearest : alignLimit ∷ weightLimit ∷ [] ≡ nearestTo 15 100 ∷ nearestTo 1 1000000 ∷ []

@@ -1,14 +1,14 @@
 -- A list whose first rows are replaced, one more at a time: what a loop that writes from the front cites. Rows have w places each; `written` has rows of three
 -- floats, `filled` of one element. Assumes nothing.
 use mathlib.Core.Path.{_≡_, refl, sym, ap, _∙_}
-use mathlib.Core.List.{List, [], _∷_, _++_, append-assoc}
+use mathlib.Core.List.{List, [], _∷_, _++_, append-assoc, append-nil}
 use mathlib.Core.Logic.{⊎-elim}
 use Prim.Native.Nat.{ℕ, zero, suc, _+_, _-_, _*_, _<_, _≤_}
 use native.Mathlib.Numerals.{add-one}
 use native.Mathlib.Nat.{mul-zero, mul-suc, mul-add, eq-or-lt-of-le}
 use native.Mathlib.Omega.{arith}
-use lib.ListN.{length, getD, take, drop, set, length-append, length-drop}
-use lib.Seq.{sets, sets-eq, take-at, drop-at, drop-drop, getD-drop, getD-take}
+use lib.ListN.{length, getD, take, drop, set, length-append, length-take, length-drop, take-append-drop, drop-of-length-le}
+use lib.Seq.{sets, sets-eq, take-at, take-add, drop-at, drop-cons, drop-drop, getD-drop, getD-take, ext-getD}
 use lib.Ieee.{Float, nan}
 use Rattle.vector.specs.declared.Vec3.{Vec3}
 use Rattle.vector.specs.Vector.{vec}
@@ -58,6 +58,23 @@ module _ {A : Type 0} (w : ℕ) (row : ℕ → List A) (wide : (i : ℕ) → len
       let f : w * i ≡ w * n + w * (i - n) = ap (λ (k : ℕ). w * k) e ∙ mul-add w n (i - n) in
       rw (f, ← drop-drop (w * (i - n)) (w * n) (rows row n ++ drop (w * n) l), drop-at (rows row n) _ (w * n) (length-rows n), drop-drop)
 
+  -- rows written into a list cut behind them
+  pub replaced-cut : (n : ℕ) (l : List A) → replaced w row n (take (w * n) l) ≡ take (w * n) (replaced w row n l)
+  unfolding replaced
+  replaced-cut n l =
+      let e = length-take (w * n) l in
+      rw (drop-of-length-le (take (w * n) l) {i = w * n} (omega arith), append-nil, take-at (rows row n) (drop (w * n) l) (w * n) (length-rows n))
+
+  -- rows that stand there already
+  rows-there : (n : ℕ) (l : List A) → ((i : ℕ) → i < n → take w (drop (w * i) l) ≡ row i) → rows row n ≡ take (w * n) l
+  unfolding rows
+  rows-there zero l h = rw mul-zero
+  rows-there (suc n) l h = rw (rows-there n l (λ i k. h i (omega arith)), ← h n (omega arith), ← take-add (w * n) w l, mul-suc)
+
+  pub replaced-there : (n : ℕ) (l : List A) → ((i : ℕ) → i < n → take w (drop (w * i) l) ≡ row i) → replaced w row n l ≡ l
+  unfolding replaced
+  replaced-there n l h = rw (rows-there n l h) (take-append-drop (w * n) l)
+
 -- only the first n rows count
 pub rows-same : {A : Type 0} (f g : ℕ → List A) (n : ℕ) → ((i : ℕ) → i < n → f i ≡ g i) → rows f n ≡ rows g n
 unfolding rows
@@ -67,6 +84,11 @@ rows-same f g (suc n) h = rw (rows-same f g n (λ i k. h i (omega arith)), h n (
 pub replaced-same : {A : Type 0} (w : ℕ) (f g : ℕ → List A) (n : ℕ) (l : List A) → ((i : ℕ) → i < n → f i ≡ g i) → replaced w f n l ≡ replaced w g n l
 unfolding replaced
 replaced-same w f g n l h = rw (rows-same f g n h)
+
+-- rows replaced once more, as many, are those that were replaced last
+pub replaced-again : {A : Type 0} (w : ℕ) (f g : ℕ → List A) → ((i : ℕ) → length (g i) ≡ w) → (n : ℕ) (l : List A) → replaced w f n (replaced w g n l) ≡ replaced w f n l
+unfolding replaced
+replaced-again {A} w f g wide n l = ap (λ (d : List A). rows f n ++ d) (rest-kept w g wide n n l (omega arith))
 
 -- ---- vectors
 
@@ -89,6 +111,18 @@ vec-same l m i e = three (part 0 (3 * i) (omega arith)) (part 1 (3 * i + 1) (ome
   where
     part : (j k : ℕ) → k ≡ 3 * i + j → getD l k nan ≡ getD m k nan
     part j k f = place l (3 * i) j k nan f ∙ ap (λ (d : List Float). getD d j nan) e ∙ sym (place m (3 * i) j k nan f)
+
+-- where a list has all three places of a vector, they hold its floats
+by-vec : (l : List Float) (i : ℕ) {v : Vec3} → 3 * i + 2 < length l → vecAt l i ≡ v → take 3 (drop (3 * i) l) ≡ components v
+by-vec l i h e = front (3 * i) (3 * i + 1) (3 * i + 2) (omega arith) (omega arith) h ∙ ap components e
+  where
+    front : (a b c : ℕ) → b ≡ suc a → c ≡ suc (suc a) → c < length l → take 3 (drop a l) ≡ getD l a nan ∷ getD l b nan ∷ getD l c nan ∷ []
+    front a b c p q k = rw (p, q, drop-cons l a nan (omega arith), drop-cons l (suc a) nan (omega arith), drop-cons l (suc (suc a)) nan (omega arith))
+
+-- a vector of a list cut past it
+pub at-cut : (n : ℕ) (l : List Float) (i : ℕ) → i < n → vecAt (take (3 * n) l) i ≡ vecAt l i
+at-cut n l i h =
+    three (getD-take (3 * n) l (3 * i) nan (omega arith)) (getD-take (3 * n) l (3 * i + 1) nan (omega arith)) (getD-take (3 * n) l (3 * i + 2) nan (omega arith))
 
 module _ (g : ℕ → Vec3) where
   abbrev row : ℕ → List Float
@@ -118,6 +152,18 @@ module _ (g : ℕ → Vec3) where
   -- the vector that a loop has not reached yet is as it was
   pub at-next : (n : ℕ) (l : List Float) {d : List Float} {a : Vec3} → d ≡ written g n l → a ≡ vecAt d n → a ≡ vecAt l n
   at-next n l p q = rw (q, p) (at-past n n l (omega arith))
+
+  -- the floats past the vectors written are as they were
+  pub written-past : (n : ℕ) (l : List Float) → drop (3 * n) (written g n l) ≡ drop (3 * n) l
+  written-past n l = rest-kept 3 row wide n n l (omega arith)
+
+  -- vectors written into a list cut behind them
+  pub written-cut : (n : ℕ) (l : List Float) → written g n (take (3 * n) l) ≡ take (3 * n) (written g n l)
+  written-cut = replaced-cut 3 row wide
+
+  -- vectors that stand there already
+  pub written-there : (n : ℕ) (l : List Float) → 3 * n ≤ length l → ((i : ℕ) → i < n → vecAt l i ≡ g i) → written g n l ≡ l
+  written-there n l h e = replaced-there 3 row wide n l (λ i k. by-vec l i (omega arith) (e i k))
 
 pub written-same : (f g : ℕ → Vec3) (n : ℕ) (l : List Float) → ((i : ℕ) → i < n → f i ≡ g i) → written f n l ≡ written g n l
 written-same f g n l h = replaced-same 3 (λ i. components (f i)) (λ i. components (g i)) n l (λ i k. ap components (h i k))
@@ -153,3 +199,9 @@ module _ {A : Type 0} (g : ℕ → A) where
       place (filled g n l) (1 * i) 0 i d (omega arith)
       ∙ ap (λ (m : List A). getD m 0 d) (rest-kept 1 one narrow n i l h)
       ∙ sym (place l (1 * i) 0 i d (omega arith))
+
+-- a list stored over another of its length is that list
+pub filled-whole : {A : Type 0} (l m : List A) (d : A) → length m ≡ length l → filled (λ k. getD l k d) (length l) m ≡ l
+filled-whole l m d e =
+    let same : length (filled (λ k. getD l k d) (length l) m) ≡ length l = length-filled (λ k. getD l k d) (length l) m (omega arith) ∙ e in
+    ext-getD d (filled (λ k. getD l k d) (length l) m) l same (λ i h. at-filled (λ k. getD l k d) (length l) i m d (rw same at h))
