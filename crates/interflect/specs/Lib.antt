@@ -2,3 +2,4 @@
 pub mod Outs
 pub mod Scenes
 pub mod Surfels
+pub mod Solves

@@ -11,6 +11,7 @@ use Rattle.scene.specs.declared.Closure.{Closure}
 use Rattle.field.specs.declared.DistHit.{DistHit}
 use Rattle.scene.specs.declared.Hit.{Hit}
 use Rattle.scene.specs.declared.Shadow.{Shadow}
+use Rattle.solve.specs.declared.SolveStats.{SolveStats}
 
 -- a value at a function's two moments, entry and exit
 abbrev pub Moments : Type 0 → Type 0
@@ -96,4 +97,12 @@ readingOuts seen x y z =
     record {
       entry = record { seen = now (seen .entry); light = light .entry };
       exit = record { seen = now (seen .exit); light = light .exit };
+    }
+
+-- how many bounces a solve made, and its last change
+abbrev pub statsOuts : Out ℕ → Out Float → Moments SolveStats
+statsOuts bounces change =
+    record {
+      entry = record { bounces = now (bounces .entry); change = now (change .entry) };
+      exit = record { bounces = now (bounces .exit); change = now (change .exit) };
     }

@@ -4,6 +4,7 @@
 // No function here asks anything of its caller.
 mod floats;
 mod scenes;
+mod solves;
 mod surfels;
 
 pub use floats::interflect_cell;
@@ -14,6 +15,8 @@ pub use scenes::interflect_hemisphere_closure;
 pub use scenes::interflect_normal;
 pub use scenes::interflect_soft_shadow;
 pub use scenes::interflect_trace;
+pub use solves::interflect_reset;
+pub use solves::interflect_solve;
 pub use surfels::interflect_gather;
 pub use surfels::interflect_gather_all;
 pub use surfels::interflect_grid_build;

@@ -1,0 +1,34 @@
+-- What the solve and the reset leave through the C interface: document 01, 'The solve' and 'Refused calls'. Each gives the number that is returned with what the outs and the slices
+-- hold then: a refused call leaves them as they were. Definitions only.
+use mathlib.Core.List.{List}
+use Prim.Native.Nat.{ℕ}
+use lib.Ieee.{Float}
+use Rattle.solve.specs.Answers.{solveAnswer}
+use Rattle.reset.specs.Resetting.{resetAnswer}
+use Rattle.transfer.specs.Room.{Room, Light}
+use Rattle.reset.specs.declared.ResetAnswer.{ResetAnswer}
+use Rattle.reset.specs.declared.ResetAnswer.the-variants as Reset
+use Rattle.solve.specs.declared.SolveAnswer.{SolveAnswer}
+use Rattle.solve.specs.declared.SolveAnswer.the-variants as Solve
+use Rattle.solve.specs.declared.SolveStats.{SolveStats}
+
+-- what each answer leaves: a refusal its number, else 0 and the answer's own numbers
+abbrev pub solveLeft : SolveAnswer → SolveStats → ℕ × SolveStats
+solveLeft (Solve.Refused number) held = (number, held)
+solveLeft (Solve.Done made) held = (0, made)
+
+abbrev pub resetLeft : ResetAnswer → ℕ
+resetLeft (Reset.Refused number) = number
+resetLeft Reset.Done = 0
+
+-- the entries
+abbrev pub interflectSolve : Room → ℕ → SolveStats → Light → List Float → ℕ × SolveStats × Light × List Float
+interflectSolve r limit held l s =
+    let a = solveAnswer r limit l s in
+    let left = solveLeft (a .0) held in
+    (left .0, left .1, a .1, a .2)
+
+abbrev pub interflectReset : List Float → List Float → List Float → List Float → ℕ × List Float × List Float × List Float
+interflectReset light direct irr rad =
+    let a = resetAnswer light direct irr rad in
+    (resetLeft (a .0), a .1, a .2, a .3)

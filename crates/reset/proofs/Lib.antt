@@ -1,0 +1,2 @@
+-- What a reset that is not refused leaves.
+pub mod Stored

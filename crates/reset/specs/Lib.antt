@@ -1,0 +1,2 @@
+-- The definitions that the contracts of `reset` cite.
+pub mod Resetting

@@ -1,0 +1,65 @@
+-- A bounce of the code is the bounce of the definition: rows that read the stored light of the clusters read the clusters' light. Assumes nothing.
+use mathlib.Core.List.{List}
+use mathlib.Core.Path.{_≡_, ap, _∙_}
+use Prim.Native.Nat.{ℕ, _+_, _<_}
+use native.Mathlib.Omega.{arith}
+use lib.Ieee.{Float}
+use lib.ListN.{length}
+use Rattle.float.specs.Arithmetic.{0f}
+use Rattle.float.specs.Column.{floatAt}
+use Rattle.float.specs.Order.{greater}
+use Rattle.vector.specs.declared.Vec3.{Vec3}
+use Rattle.vector.specs.Flat.{vecAt, written}
+use Rattle.vector.specs.Vector.{plus, zeroVec, scaled}
+use Rattle.vector.proofs.Replaced.{length-written, at-written, written-same}
+use Rattle.vector.proofs.Sums.{fold-same}
+use Rattle.accept.specs.Tables.{numberAt}
+use Rattle.transfer.specs.Room.{Rows, Room, Light, lightOf}
+use Rattle.solve.specs.Bounce.{clusterLight, linkLight, rowLight, lit, newIrr, newRad, bounce, step, greatestStep, change}
+use Rattle.transfer.specs.Needs.{RowsHeld, Accepted}
+use Rattle.transfer.proofs.Acceptance.{rows-held-also}
+
+-- the clusters' light that a bounce from the light l starts with
+abbrev pub clustersLight : Room → Light → ℕ → Vec3
+clustersLight r l = clusterLight (r .clusters) (r .area) (l .rad)
+
+-- a room that is accepted, and `light`, the list s with its clusters' light stored
+module _ {r : Room} {l : Light} {s light : List Float} (ok : Accepted r l s) (stored : light ≡ written (clustersLight r l) (r .clusters .nc) s) where
+  -- the rows find that light in the list
+  pub rows-held-after : RowsHeld (r .n) (r .clusters .nc) (r .rows) light
+  rows-held-after = rows-held-also light (ap length stored ∙ length-written (clustersLight r l) (r .clusters .nc) s (ok .rows-held .each .lights)) (ok .rows-held)
+
+  -- each link reads its cluster's light
+  links-agree : (k : ℕ) → k < r .rows .links → linkLight (r .rows .cluster) (r .rows .weight) (vecAt light) k ≡ linkLight (r .rows .cluster) (r .rows .weight) (clustersLight r l) k
+  links-agree k h =
+      let c = numberAt (r .rows .cluster) k in
+      ap (λ (v : Vec3). scaled v (floatAt (r .rows .weight) k))
+      (ap (λ (d : List Float). vecAt d c) stored ∙ at-written (clustersLight r l) (r .clusters .nc) c s (ok .rows-held .each .below k h))
+
+  -- so each row brings the new irr
+  irr-agrees : (i : ℕ) → i < r .n → rowLight (r .rows) (vecAt light) i ≡ newIrr r (l .rad) i
+  unfolding rowLight newIrr
+  irr-agrees i h =
+      let up = ok .rows-held .rising i h in
+      let end = ok .rows-held .inside (i + 1) (omega arith) in
+      fold-same plus zeroVec _ _ _ (λ j k. links-agree (numberAt (r .rows .starts) i + j) (omega (arith, k, up, end)))
+
+  -- which gives the new rad
+  rad-agrees : (i : ℕ) → i < r .n → lit (r .direct) (r .albedo) i (rowLight (r .rows) (vecAt light) i) ≡ newRad r (l .rad) i
+  unfolding newRad
+  rad-agrees i h = ap (lit (r .direct) (r .albedo) i) (irr-agrees i h)
+
+  -- irr and rad as the rows write them are the light after the bounce
+  pub bounce-by : {irr rad : List Float}
+      → irr ≡ written (rowLight (r .rows) (vecAt light)) (r .n) (l .irr)
+      → rad ≡ written (λ i. lit (r .direct) (r .albedo) i (rowLight (r .rows) (vecAt light) i)) (r .n) (l .rad)
+      → lightOf irr rad ≡ bounce r l
+  unfolding bounce
+  bounce-by p q =
+      rw (p ∙ written-same _ (newIrr r (l .rad)) (r .n) (l .irr) irr-agrees, q ∙ written-same _ (newRad r (l .rad)) (r .n) (l .rad) rad-agrees)
+
+  -- the greatest step of rad is the change
+  pub change-by : {d : Float}
+      → d ≡ greatestStep (vecAt (l .rad)) (λ i. lit (r .direct) (r .albedo) i (rowLight (r .rows) (vecAt light) i)) (r .n) → d ≡ change r (l .rad)
+  unfolding change greatestStep
+  change-by p = p ∙ fold-same greater 0f _ _ (r .n) (λ i h. ap (step (vecAt (l .rad) i)) (rad-agrees i h))

@@ -1,0 +1,51 @@
+-- The light of one cluster and of one row, and the greatest step with one vector more: what the loops over clusters and surfels cite. Assumes nothing.
+use mathlib.Core.List.{List}
+use mathlib.Core.Path.{_≡_}
+use Prim.Native.Nat.{ℕ, _+_, _-_}
+use lib.Ieee.{Float}
+use Rattle.float.specs.Arithmetic.{0f}
+use Rattle.float.specs.Column.{floatAt}
+use Rattle.float.specs.Order.{greater}
+use Rattle.vector.specs.declared.Vec3.{Vec3}
+use Rattle.vector.specs.Fold.{total}
+use Rattle.vector.specs.Vector.{over}
+use Rattle.vector.proofs.Sums.{fold-none, fold-more}
+use Rattle.accept.specs.Tables.{numberAt}
+use Rattle.transfer.specs.Room.{Clusters, Rows}
+use Rattle.solve.specs.Bounce.{leastArea, memberLight, clusterLight, linkLight, rowLight, lit, step, greatestStep}
+
+-- the sum s over the members from `from` on, divided by the larger of the area and 1e-12, is the cluster's light
+pub cluster-light-by : (cs : Clusters) (area rad : List Float) (c : ℕ) {from count : ℕ} {s v : Vec3} {d : Float}
+    → from ≡ numberAt (cs .first) c
+    → count ≡ numberAt (cs .count) c
+    → s ≡ total (λ j. memberLight area rad (numberAt (cs .member) (from + j))) count
+    → d ≡ greater (floatAt (cs .area) c) leastArea
+    → v ≡ over s d
+    → v ≡ clusterLight cs area rad c
+unfolding clusterLight
+cluster-light-by cs area rad c p q r e f = rw (f, e, r, p, q)
+
+-- the sum s over the links from one start up to the next is what the row brings
+pub row-light-by : (rs : Rows) (light : ℕ → Vec3) (i : ℕ) {from to : ℕ} {s : Vec3}
+    → from ≡ numberAt (rs .starts) i
+    → to ≡ numberAt (rs .starts) (i + 1)
+    → s ≡ total (λ j. linkLight (rs .cluster) (rs .weight) light (from + j)) (to - from)
+    → s ≡ rowLight rs light i
+unfolding rowLight
+row-light-by rs light i p q r = rw (r, p, q)
+
+-- the rad that the irr f i gives
+pub lit-by : (direct albedo : List Float) (f : ℕ → Vec3) (i : ℕ) {irr v : Vec3} → irr ≡ f i → v ≡ lit direct albedo i irr → v ≡ lit direct albedo i (f i)
+lit-by direct albedo f i p q = rw (q, p)
+
+module _ (from to : ℕ → Vec3) where
+  -- no step is made yet
+  pub steps-none : {d : Float} → d ≡ 0f → d ≡ greatestStep from to 0
+  unfolding greatestStep
+  steps-none e = fold-none greater 0f (λ i. step (from i) (to i)) e
+
+  -- d is the greatest of i steps, x the next, from a to b, and e the greater of the two
+  pub steps-more : (i : ℕ) {d e x : Float} {a b : Vec3}
+      → d ≡ greatestStep from to i → a ≡ from i → b ≡ to i → x ≡ step a b → e ≡ greater d x → e ≡ greatestStep from to (i + 1)
+  unfolding greatestStep
+  steps-more i p q r f e = fold-more greater 0f (λ j. step (from j) (to j)) i p (rw (f, q, r)) e

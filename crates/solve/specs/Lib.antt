@@ -1,0 +1,7 @@
+-- The definitions that the contracts of `solve` cite.
+pub mod Bounce
+pub mod Balance
+pub mod Runs
+pub mod Answers
+pub mod Calls
+pub mod Continuation
