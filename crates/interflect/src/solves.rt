@@ -6,8 +6,9 @@ ghost use Rattle.transfer.specs.Room.{roomIn, lightIn, lightOut};
 ghost use Rattle.interflect.specs.Outs.{statsOuts};
 ghost use Rattle.interflect.specs.Solves.{interflectSolve, interflectReset};
 
-// Bounces the light of n surfels until it stands still or the limit is made: bounces becomes how
-// many were made, change the greatest absolute step of any channel of rad in the last of them.
+// Bounces the light of n surfels until the last change is under 0.0001 or the limit is made:
+// bounces becomes how many were made, change the greatest absolute step of any channel of rad in
+// the last of them, 0 if none was made.
 #[no_mangle]
 pub extern "C" fn interflect_solve(
     n: usize,

@@ -21,14 +21,14 @@ listsWithin light direct irr rad =
     conj (atMost light (3 * maxSurfels) ∷ atMost direct (3 * maxSurfels) ∷ atMost irr (3 * maxSurfels) ∷ atMost rad (3 * maxSurfels) ∷ [])
 
 -- 4: the lists are of one length, a multiple of three
-abbrev pub listsEven : ℕ → ℕ → ℕ → ℕ → Bool
-listsEven light direct irr rad = conj (eqb (light % 3) 0 ∷ eqb direct light ∷ eqb irr light ∷ eqb rad light ∷ [])
+abbrev pub lengthsEqual : ℕ → ℕ → ℕ → ℕ → Bool
+lengthsEqual light direct irr rad = conj (eqb (light % 3) 0 ∷ eqb direct light ∷ eqb irr light ∷ eqb rad light ∷ [])
 
 -- the number that refuses a reset to this light, 0 if none does
 unfoldable pub resetRefusal : List Float → ℕ → ℕ → ℕ → ℕ
 resetRefusal light direct irr rad =
     firstFailed ((2, listsWithin (length light) direct irr rad)
-    ∷ (4, listsEven (length light) direct irr rad)
+    ∷ (4, lengthsEqual (length light) direct irr rad)
     ∷ (5, floatsWithin light (length light) 1 0f maxAmount)
     ∷ [])
 

@@ -11,7 +11,7 @@ ghost use lib.ListN.{length};
 ghost use Rattle.float.specs.Arithmetic.{0f};
 ghost use Rattle.float.specs.Column.{floatAt};
 ghost use Rattle.vector.specs.Flat.{filled};
-ghost use Rattle.reset.specs.Resetting.{listsWithin, listsEven, resetRefusal, resetAnswer};
+ghost use Rattle.reset.specs.Resetting.{listsWithin, lengthsEqual, resetRefusal, resetAnswer};
 
 // Sets direct and rad to the given light and irr to zero, three floats a surfel in each list, or
 // refuses the call by document 01's number and then writes nothing.
@@ -33,9 +33,9 @@ fn refusal(light: &[f32], direct: usize, irr: usize, rad: usize) -> u32
     ensures { λ r. ⌜ r ≡ resetRefusal (now (light .entry)) direct irr rad ⌝ }
 {
     let within = lists_within(light.len(), direct, irr, rad);
-    let even = lists_even(light.len(), direct, irr, rad);
+    let equal = lengths_equal(light.len(), direct, irr, rad);
     let floats = floats_within(light, light.len(), 1, 0.0, MAX_AMOUNT);
-    unless(within, 2, unless(even, 4, unless(floats, 5, 0)))
+    unless(within, 2, unless(equal, 4, unless(floats, 5, 0)))
 }
 
 // Whether no list has more floats than the most surfels take.
@@ -47,8 +47,8 @@ fn lists_within(light: usize, direct: usize, irr: usize, rad: usize) -> bool
 }
 
 // Whether the lists are of one length, a multiple of three.
-fn lists_even(light: usize, direct: usize, irr: usize, rad: usize) -> bool
-    ensures { λ r. ⌜ r ≡ listsEven light direct irr rad ⌝ }
+fn lengths_equal(light: usize, direct: usize, irr: usize, rad: usize) -> bool
+    ensures { λ r. ⌜ r ≡ lengthsEqual light direct irr rad ⌝ }
 {
     (light % 3 == 0) & (direct == light) & (irr == light) & (rad == light)
 }

@@ -15,7 +15,7 @@ use Rattle.vector.proofs.Replaced.{length-written, at-written, written-same}
 use Rattle.vector.proofs.Sums.{fold-same}
 use Rattle.accept.specs.Tables.{numberAt}
 use Rattle.transfer.specs.Room.{Rows, Room, Light, lightOf}
-use Rattle.solve.specs.Bounce.{clusterLight, linkLight, rowLight, lit, newIrr, newRad, bounce, step, greatestStep, change}
+use Rattle.solve.specs.Bounce.{clusterLight, linkLight, rowLight, radOf, newIrr, newRad, bounce, step, greatestStep, change}
 use Rattle.transfer.specs.Needs.{RowsHeld, Accepted}
 use Rattle.transfer.proofs.Acceptance.{rows-held-also}
 
@@ -45,14 +45,14 @@ module _ {r : Room} {l : Light} {s light : List Float} (ok : Accepted r l s) (st
       fold-same plus zeroVec _ _ _ (λ j k. links-agree (numberAt (r .rows .starts) i + j) (omega (arith, k, up, end)))
 
   -- which gives the new rad
-  rad-agrees : (i : ℕ) → i < r .n → lit (r .direct) (r .albedo) i (rowLight (r .rows) (vecAt light) i) ≡ newRad r (l .rad) i
+  rad-agrees : (i : ℕ) → i < r .n → radOf (r .direct) (r .albedo) i (rowLight (r .rows) (vecAt light) i) ≡ newRad r (l .rad) i
   unfolding newRad
-  rad-agrees i h = ap (lit (r .direct) (r .albedo) i) (irr-agrees i h)
+  rad-agrees i h = ap (radOf (r .direct) (r .albedo) i) (irr-agrees i h)
 
   -- irr and rad as the rows write them are the light after the bounce
   pub bounce-by : {irr rad : List Float}
       → irr ≡ written (rowLight (r .rows) (vecAt light)) (r .n) (l .irr)
-      → rad ≡ written (λ i. lit (r .direct) (r .albedo) i (rowLight (r .rows) (vecAt light) i)) (r .n) (l .rad)
+      → rad ≡ written (λ i. radOf (r .direct) (r .albedo) i (rowLight (r .rows) (vecAt light) i)) (r .n) (l .rad)
       → lightOf irr rad ≡ bounce r l
   unfolding bounce
   bounce-by p q =
@@ -60,6 +60,6 @@ module _ {r : Room} {l : Light} {s light : List Float} (ok : Accepted r l s) (st
 
   -- the greatest step of rad is the change
   pub change-by : {d : Float}
-      → d ≡ greatestStep (vecAt (l .rad)) (λ i. lit (r .direct) (r .albedo) i (rowLight (r .rows) (vecAt light) i)) (r .n) → d ≡ change r (l .rad)
+      → d ≡ greatestStep (vecAt (l .rad)) (λ i. radOf (r .direct) (r .albedo) i (rowLight (r .rows) (vecAt light) i)) (r .n) → d ≡ change r (l .rad)
   unfolding change greatestStep
   change-by p = p ∙ fold-same greater 0f _ _ (r .n) (λ i h. ap (step (vecAt (l .rad) i)) (rad-agrees i h))

@@ -2,21 +2,22 @@
 use mathlib.Core.List.{List, [], _∷_}
 use mathlib.Core.Logic.{⊎-elim}
 use mathlib.Core.Path.{_≡_, refl, sym, ap, subst, _∙_}
-use Prim.Native.Nat.{ℕ, _*_, _≤_}
+use Prim.Native.Nat.{ℕ, _+_, _*_, _≤_}
 use native.Mathlib.Omega.{arith}
 use lib.Ieee.{Float}
-use lib.ListN.{length, length-take}
+use lib.ListN.{length, take, length-take}
+use lib.Seq.{take-take}
 use Rattle.accept.specs.Limits.{maxBounces}
 use Rattle.solve.specs.declared.SolveAnswer.the-variants.{Done}
 use Rattle.transfer.specs.Room.{Room}
-use Rattle.solve.specs.Runs.{unrun, stopped}
+use Rattle.solve.specs.Runs.{noBounce, stopped}
 use Rattle.transfer.specs.Checks.{refusal}
-use Rattle.solve.specs.Calls.{LitRoom, Call, left, cut}
+use Rattle.solve.specs.Calls.{surfels, LitRoom, Call, left, cut}
 use Rattle.solve.specs.Continuation.{Made, limits, Chain, taken, oneRun, whole, Answers, Kept, PastKept, Each, IfRefused, IfRun, Continuation}
 use Rattle.solve.proofs.Trimmed.{run-past, clusters-past}
 use Rattle.solve.proofs.Refusals.{refusal-cut, also-accepted}
 use Rattle.solve.proofs.Onward.{run-onward}
-use Rattle.solve.proofs.Joining.{refusedBy, runFrom, Ran, RefusedCall, ran, outcome-of, madeOf, ran-accepted, ran-left, chain-ran, chain-refused, goes-on}
+use Rattle.solve.proofs.Joining.{refusedBy, runFrom, Ran, RefusedCall, ran, outcome-of, madeOf, ran-accepted, ran-answer, ran-left, chain-ran, chain-refused, goes-on}
 
 -- ---- each call
 
@@ -53,7 +54,7 @@ past-kept c w =
 -- it is what the runs taken made together
 one-run : (g : LitRoom) (cs : List Call) → Chain g cs → oneRun g (limits cs) ≡ taken g cs
 unfolding stopped
-one-run g cs ch = ap (madeOf g) (run-onward (g .room) (limits cs) (g .light)) ∙ goes-on g cs (unrun (g .light)) refl ch
+one-run g cs ch = ap (madeOf g) (run-onward (g .room) (limits cs) (g .light)) ∙ goes-on g cs (noBounce (g .light)) refl ch
 
 -- ---- the one run by the entry
 
@@ -67,45 +68,82 @@ ran-held c g w e =
     let ok = ran-accepted c w in
     subst LightHeld e (simp length-take (omega (arith, ok .irrs)), simp length-take (omega (arith, ok .clusters-held .each .rads)))
 
--- no number refuses a run of the list in the room cut to its need
-cut-accepted : (c : Call) (r : Room) → Ran c → cut (c .handed) .room ≡ r
-    → refusal r (c .limit) (length (c .handed .light .irr)) (length (c .handed .light .rad)) (length (c .scratch)) ≡ 0
-cut-accepted c r w e =
+-- and so do those of a room that is the same when cut to its need
+longer-held : (h g : LitRoom) → cut h ≡ g → LightHeld g → LightHeld h
+longer-held h g e held =
+    let k : LightHeld (cut h) = subst LightHeld (sym e) held in
+    let i = length-take (3 * h .room .n) (h .light .irr) in
+    let b = length-take (3 * h .room .n) (h .light .rad) in
+    (omega (arith, k .0, i), omega (arith, k .1, b))
+
+-- where a run is not refused, neither is its limit in a room that is the same when cut to its need
+same-accepted : (c : Call) (h : LitRoom) (r : Room) → Ran c → cut (c .handed) .room ≡ r → cut h .room ≡ r
+    → refusal (h .room) (c .limit) (length (c .handed .light .irr)) (length (c .handed .light .rad)) (length (c .scratch)) ≡ 0
+same-accepted c h r w e d =
     let i = length (c .handed .light .irr) in
     let b = length (c .handed .light .rad) in
     let s = length (c .scratch) in
-    ap (λ (x : Room). refusal x (c .limit) i b s) (sym e) ∙ refusal-cut (c .handed .room) (c .limit) i b s ∙ w .none
+    sym (refusal-cut (h .room) (c .limit) i b s)
+    ∙ ap (λ (x : Room). refusal x (c .limit) i b s) (d ∙ sym e)
+    ∙ refusal-cut (c .handed .room) (c .limit) i b s
+    ∙ w .none
 
--- and none a total of at most 4,096 in that room, with that run's scratch
-whole-accepted : (c : Call) (g : LitRoom) (m : ℕ) → Ran c → cut (c .handed) .room ≡ g .room → LightHeld g → m ≤ maxBounces → refusedBy (whole g m (c .scratch)) ≡ 0
-whole-accepted c g m w e held few =
-    also-accepted (g .room) (c .limit) (length (c .handed .light .irr)) (length (c .handed .light .rad)) (length (c .scratch)) m (length (g .light .irr))
-    (length (g .light .rad)) (cut-accepted c (g .room) w e) few (held .0) (held .1)
+-- and neither is a total of at most 4,096 there, with that run's scratch
+whole-accepted : (c : Call) (h g : LitRoom) (m : ℕ) → Ran c → cut (c .handed) .room ≡ g .room → cut h ≡ g → LightHeld g → m ≤ maxBounces
+    → refusedBy (whole h m (c .scratch)) ≡ 0
+whole-accepted c h g m w e d held few =
+    let k = longer-held h g d held in
+    also-accepted (h .room) (c .limit) (length (c .handed .light .irr)) (length (c .handed .light .rad)) (length (c .scratch)) m (length (h .light .irr))
+    (length (h .light .rad)) (same-accepted c h (g .room) w e (ap (λ (x : LitRoom). x .room) d)) few (k .0) (k .1)
 
 -- a call of the total that is not refused answers the one run, and leaves its surfels
-whole-answers : (g : LitRoom) (m : ℕ) (s : List Float) (q : Made) → oneRun g m ≡ q → Ran (whole g m s) → Answers (whole g m s) q
-whole-answers g m s q e w =
+whole-answers : (h g : LitRoom) (m : ℕ) (s : List Float) (q : Made) → cut h ≡ g → oneRun g m ≡ q → Ran (whole h m s) → Answers (whole h m s) q
+whole-answers h g m s q d e w =
     record {
-      answer = rw (w .made) (ap (λ (x : Made). Done (record { bounces = x .bounces; change = x .last })) e);
-      surfels-left = rw (w .made) (ap (λ (x : Made). x .surfels) e);
+      answer = ran-answer (whole h m s) g w d ∙ ap (λ (x : Made). Done (record { bounces = x .bounces; change = x .last })) e;
+      surfels-left = ap (λ (x : LitRoom). surfels x) (ran-left (whole h m s) g w d) ∙ ap (λ (x : Made). x .surfels) e;
     }
 
 module _ (g : LitRoom) (m : ℕ) (few : m ≤ maxBounces) (q : Made) (e : oneRun g m ≡ q) where
-  -- so with the scratch of each run of a list of solves of g's room, which starts from h
-  entry-answers : (cs : List Call) (h : LitRoom) → h .room ≡ g .room → (LightHeld h → LightHeld g) → Chain h cs
-      → Each (IfRun (λ c. Answers (whole g m (c .scratch)) q)) cs
-  entry-answers [] h same held ch = tt
-  entry-answers (c ∷ cs) h same held ch =
+  -- so with the scratch of each run of a list of solves of g's room, which goes on from the room f
+  entry-answers : (cs : List Call) (f : LitRoom) → f .room ≡ g .room → (LightHeld f → LightHeld g) → Chain f cs
+      → Each (IfRun (λ c. (h : LitRoom) → cut h ≡ g → Answers (whole h m (c .scratch)) q)) cs
+  entry-answers [] f same held ch = tt
+  entry-answers (c ∷ cs) f same held ch =
       ⊎-elim
       (λ (w : Ran c).
-      let k = chain-ran c cs w h ch in
-      let enough = held (ran-held c h w (k .0)) in
-      let none = whole-accepted c g m w (ap (λ (x : LitRoom). x .room) (k .0) ∙ same) enough few in (
-        rw (w .made) (whole-answers g m (c .scratch) q e (ran (whole g m (c .scratch)) none)),
-        entry-answers cs (cut (left c)) (ap (λ (x : LitRoom). x .room) (ran-left c h w (k .0)) ∙ same) (λ x. enough) (k .1),
+      let k = chain-ran c cs w f ch in
+      let enough = held (ran-held c f w (k .0)) in
+      let here = ap (λ (x : LitRoom). x .room) (k .0) ∙ same in (
+        rw (w .made) (λ h d. whole-answers h g m (c .scratch) q d e (ran (whole h m (c .scratch)) (whole-accepted c h g m w here d enough few))),
+        entry-answers cs (cut (left c)) (ap (λ (x : LitRoom). x .room) (ran-left c f w (k .0)) ∙ same) (λ x. enough) (k .1),
       ))
-      (λ (w : RefusedCall c). (rw (w .made) tt, entry-answers cs h same held (chain-refused c cs w h ch)))
+      (λ (w : RefusedCall c). (rw (w .made) tt, entry-answers cs f same held (chain-refused c cs w f ch)))
       (outcome-of c)
+
+-- a list cut once more to the same length
+once : {A : Type 0} (n : ℕ) (l : List A) → take n (take n l) ≡ take n l
+once n l = take-take n n l (omega arith)
+
+-- a room that is cut to its need is as given itself: the entry may be called with it
+pub cut-again : (h : LitRoom) → cut (cut h) ≡ cut h
+cut-again h =
+    rw (
+      once (3 * h .room .n) (h .p),
+      once (3 * h .room .n) (h .normals),
+      once (3 * h .room .n) (h .room .albedo),
+      once (h .room .n) (h .room .area),
+      once (3 * h .room .n) (h .room .direct),
+      once (h .room .clusters .nc) (h .room .clusters .area),
+      once (h .room .clusters .nc) (h .room .clusters .first),
+      once (h .room .clusters .nc) (h .room .clusters .count),
+      once (h .room .clusters .members) (h .room .clusters .member),
+      once (h .room .n + 1) (h .room .rows .starts),
+      once (h .room .rows .links) (h .room .rows .cluster),
+      once (h .room .rows .links) (h .room .rows .weight),
+      once (3 * h .room .n) (h .light .irr),
+      once (3 * h .room .n) (h .light .rad),
+    )
 
 -- ---- the law
 
@@ -113,8 +151,8 @@ module _ (g : LitRoom) (m : ℕ) (few : m ≤ maxBounces) (q : Made) (e : oneRun
 pub continuation : Continuation
 continuation g cs few ch =
     record {
-      one = one-run g cs ch;
-      entry = entry-answers g (limits cs) few (taken g cs) (one-run g cs ch) cs g refl (λ held. held) ch;
+      by-definition = one-run g cs ch;
+      by-entry = entry-answers g (limits cs) few (taken g cs) (one-run g cs ch) cs g refl (λ held. held) ch;
       kept = each (IfRefused Kept) (if-refused Kept refused-kept) cs;
       past = each (IfRun PastKept) (if-run PastKept past-kept) cs;
     }

@@ -13,7 +13,7 @@ use Rattle.vector.specs.Flat.{components, written}
 use Rattle.vector.proofs.Replaced.{replaced-again, length-written}
 use Rattle.transfer.specs.Room.{Room, Light}
 use Rattle.solve.specs.Bounce.{newIrr, newRad, bounce, change}
-use Rattle.solve.specs.Runs.{Run, unrun, next, stopped, more, run, bounced, clustersAfter}
+use Rattle.solve.specs.Runs.{Run, noBounce, next, stopped, more, run, bounced, clustersAfter}
 use Rattle.transfer.specs.Needs.{Accepted}
 use Rattle.transfer.proofs.Acceptance.{accepted-also}
 use Rattle.solve.proofs.Bounced.{clustersLight}
@@ -43,7 +43,7 @@ pub record Going (r : Room) (limit most : ℕ) (l₀ : Light) (s₀ : List Float
 
 module _ {r : Room} {limit most : ℕ} {l : Light} {s : List Float} (ok : Accepted r l s) where
   -- no bounce is made yet
-  going-none : more r most (unrun l) ≡ run r limit l → Going r limit most l s 0 0f l s
+  going-none : more r most (noBounce l) ≡ run r limit l → Going r limit most l s 0 0f l s
   unfolding bounced clustersAfter
   going-none e =
       let all : most - 0 ≡ most = omega arith in

@@ -8,7 +8,7 @@ use native.Mathlib.Nat.{zero-add}
 use lib.Dec.{eqb·suc-zero}
 use lib.ListN.{length}
 use Rattle.solve.specs.declared.SolveAnswer.the-variants.{Refused, Done}
-use Rattle.solve.specs.Runs.{Run, run, clustersAfter}
+use Rattle.solve.specs.Runs.{Run, onward, run, clustersAfter}
 use Rattle.transfer.specs.Checks.{refusal}
 use Rattle.transfer.specs.Needs.{Accepted}
 use Rattle.solve.specs.Answers.{statsOf, solveAnswer}
@@ -16,7 +16,7 @@ use Rattle.solve.specs.Calls.{surfels, LitRoom, withLight, Call, outcome
 use Rattle.solve.specs.Continuation.{Made, runs, limits, Chain, upTo, together}
 use Rattle.transfer.proofs.Acceptance.{accepted}
 use Rattle.solve.proofs.Trimmed.{cutRun, run-cut}
-use Rattle.solve.proofs.Onward.{hasStopped, joinedRun, stopped-joined, onward, onward-none, onward-stopped, onward-run}
+use Rattle.solve.proofs.Onward.{hasStopped, joinedRun, stopped-joined, onward-none, onward-stopped, onward-run}
 
 -- ---- what a call does
 
@@ -69,7 +69,7 @@ run-of-cut : (c : Call) → Ran c → runFrom (cut (c .handed)) (c .limit) ≡ c
 run-of-cut c w = run-cut (c .handed .room) (c .limit) (c .handed .light) (c .scratch) (ran-accepted c w)
 
 -- a call that is not refused, in the room g but for what lies past the need, answers what g's run made
-ran-answer : (c : Call) (g : LitRoom) → Ran c → cut (c .handed) ≡ g → outcome c .0 ≡ Done (statsOf (runFrom g (c .limit)))
+pub ran-answer : (c : Call) (g : LitRoom) → Ran c → cut (c .handed) ≡ g → outcome c .0 ≡ Done (statsOf (runFrom g (c .limit)))
 ran-answer c g w e = rw (w .made) (ap (λ (q : Run). Done (statsOf q)) (sym (run-of-cut c w)) ∙ ap (λ (x : LitRoom). Done (statsOf (runFrom x (c .limit)))) e)
 
 -- and leaves what g's run leaves

@@ -12,7 +12,7 @@ use Rattle.vector.specs.Vector.{over}
 use Rattle.vector.proofs.Sums.{fold-none, fold-more}
 use Rattle.accept.specs.Tables.{numberAt}
 use Rattle.transfer.specs.Room.{Clusters, Rows}
-use Rattle.solve.specs.Bounce.{leastArea, memberLight, clusterLight, linkLight, rowLight, lit, step, greatestStep}
+use Rattle.solve.specs.Bounce.{leastArea, memberLight, clusterLight, linkLight, rowLight, radOf, step, greatestStep}
 
 -- the sum s over the members from `from` on, divided by the larger of the area and 1e-12, is the cluster's light
 pub cluster-light-by : (cs : Clusters) (area rad : List Float) (c : ℕ) {from count : ℕ} {s v : Vec3} {d : Float}
@@ -35,8 +35,8 @@ unfolding rowLight
 row-light-by rs light i p q r = rw (r, p, q)
 
 -- the rad that the irr f i gives
-pub lit-by : (direct albedo : List Float) (f : ℕ → Vec3) (i : ℕ) {irr v : Vec3} → irr ≡ f i → v ≡ lit direct albedo i irr → v ≡ lit direct albedo i (f i)
-lit-by direct albedo f i p q = rw (q, p)
+pub rad-of-by : (direct albedo : List Float) (f : ℕ → Vec3) (i : ℕ) {irr v : Vec3} → irr ≡ f i → v ≡ radOf direct albedo i irr → v ≡ radOf direct albedo i (f i)
+rad-of-by direct albedo f i p q = rw (q, p)
 
 module _ (from to : ℕ → Vec3) where
   -- no step is made yet

@@ -7,7 +7,7 @@ use native.Mathlib.Numerals.{add-one}
 use lib.Dec.{eqb, ltb, leb·zero, leb·suc-suc, eqb·suc-zero}
 use lib.Ieee.{Float}
 use Rattle.transfer.specs.Room.{Room, Light}
-use Rattle.solve.specs.Runs.{Run, unrun, next, stopped, more, run}
+use Rattle.solve.specs.Runs.{Run, noBounce, next, stopped, more, onward, run}
 
 -- whether a run so far has stopped
 abbrev pub hasStopped : Run → Bool
@@ -91,19 +91,15 @@ more-later r zero q k d l = refl
 more-later r (suc t) q k d l = more-later-by r t q k d l _ refl (rw add-one (more-later r t q (suc k) _ _))
 
 -- a run that has not stopped goes on as the run from its light, put after it
-pub more-joined : (r : Room) (t : ℕ) (q : Run) → hasStopped q ≡ false → more r t q ≡ joinedRun q (more r t (unrun (q .light)))
+pub more-joined : (r : Room) (t : ℕ) (q : Run) → hasStopped q ≡ false → more r t q ≡ joinedRun q (more r t (noBounce (q .light)))
 unfolding more stopped next
 more-joined r zero q e = rw add-zero
 more-joined r (suc t) q e = more-next r t q e ∙ more-later r t q 0 _ _
 
 -- ---- the same, with clusters or without
 
--- at most m bounces more than the run q made; without clusters, none
-abbrev pub onward : Room → ℕ → Run → Run
-onward r m q = cond (eqb (r .clusters .nc) 0) q (more r m q)
-
 -- a run goes on from no bounce
-pub run-onward : (r : Room) (m : ℕ) (l : Light) → run r m l ≡ onward r m (unrun l)
+pub run-onward : (r : Room) (m : ℕ) (l : Light) → run r m l ≡ onward r m (noBounce l)
 unfolding run
 run-onward r m l = refl
 
@@ -132,7 +128,7 @@ onward-onward r m t q = onward-by (eqb (r .clusters .nc) 0) r m t q
 
 -- the law below, with clusters or without
 joined-by : (b : Bool) (r : Room) (t : ℕ) (q : Run) → hasStopped q ≡ false
-    → cond b q (more r t q) ≡ joinedRun q (cond b (unrun (q .light)) (more r t (unrun (q .light))))
+    → cond b q (more r t q) ≡ joinedRun q (cond b (noBounce (q .light)) (more r t (noBounce (q .light))))
 joined-by true r t q e = rw add-zero
 joined-by false r t q e = more-joined r t q e
 

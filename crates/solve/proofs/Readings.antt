@@ -1,10 +1,11 @@
--- What the definitions of the solve say, read back: how many bounces a run makes, when it stops, and that the two decimals are the nearest floats. Assumes nothing.
-use mathlib.Core.Bool.{Bool, true, false}
+-- What the definitions of the solve say, read back: how many bounces a run makes, what light they leave, when it stops, and that the two decimals are the nearest floats. Assumes nothing.
+use mathlib.Core.Bool.{Bool, true, false, cond}
 use mathlib.Core.List.{[], _∷_}
 use mathlib.Core.Logic.{_⊎_, inl, inr}
 use mathlib.Core.Path.{_≡_, refl}
 use Prim.Native.Nat.{ℕ, zero, suc, _+_, _≤_}
 use native.Mathlib.Nat.{add-zero, zero-add}
+use native.Mathlib.Numerals.{add-one}
 use native.Mathlib.Omega.{arith}
 use lib.Dec.{eqb}
 use lib.Ieee.{binary32, nan, lt, ofBits, ofFields, round, units, odd, span, climb, size}
@@ -13,19 +14,19 @@ use Rattle.float.specs.Arithmetic.{0f}
 use Rattle.accept.proofs.Decimals.{nearestTo}
 use Rattle.transfer.specs.Room.{Room, Light}
 use Rattle.solve.specs.Bounce.{leastArea}
-use Rattle.solve.specs.Runs.{Run, unrun, next, changeLimit, stopped, more, run}
+use Rattle.solve.specs.Runs.{Run, noBounce, next, changeLimit, stopped, more, run, bounced}
 use Rattle.solve.proofs.Onward.{same-by}
 
 -- ---- bounces
 
 -- without clusters no bounce is made, nor with a limit of 0
-pub none-without-clusters : (r : Room) (m : ℕ) (l : Light) → r .clusters .nc ≡ 0 → run r m l ≡ unrun l
+pub none-without-clusters : (r : Room) (m : ℕ) (l : Light) → r .clusters .nc ≡ 0 → run r m l ≡ noBounce l
 unfolding run
 none-without-clusters r m l e = rw e
 
-pub none-at-zero : (r : Room) (l : Light) → run r 0 l ≡ unrun l
+pub none-at-zero : (r : Room) (l : Light) → run r 0 l ≡ noBounce l
 unfolding run more
-none-at-zero r l = same-by (eqb (r .clusters .nc) 0) (unrun l)
+none-at-zero r l = same-by (eqb (r .clusters .nc) 0) (noBounce l)
 
 -- a run that goes on by m bounces at most makes no more, and makes them all unless it stops
 abbrev Ended : Room → ℕ → Run → Type 0
@@ -47,7 +48,25 @@ more-ended r (suc m) q = ended-by r m q _ refl (more-ended r m (next r q))
 pub run-ended : (r : Room) (m : ℕ) (l : Light) → (r .clusters .nc ≡ 0 → ⊥)
     → (run r m l .bounces ≤ m) × ((stopped (run r m l .bounces) (run r m l .last) ≡ true) ⊎ (run r m l .bounces ≡ m))
 unfolding run
-run-ended r m l h = rw (ne-eqb (r .clusters .nc) 0 h) (rw zero-add at (more-ended r m (unrun l)))
+run-ended r m l h = rw (ne-eqb (r .clusters .nc) 0 h) (rw zero-add at (more-ended r m (noBounce l)))
+
+-- a run leaves the light of as many bounces as it made
+abbrev BouncedFrom : Room → Light → Run → Type 0
+BouncedFrom r l q = q .light ≡ bounced r (q .bounces) l
+
+either-bounced : (r : Room) (l : Light) (b : Bool) (q t : Run) → BouncedFrom r l q → BouncedFrom r l t → BouncedFrom r l (cond b q t)
+either-bounced r l true q t x y = x
+either-bounced r l false q t x y = y
+
+more-bounced : (r : Room) (l : Light) (m : ℕ) (q : Run) → BouncedFrom r l q → BouncedFrom r l (more r m q)
+unfolding more next bounced
+more-bounced r l zero q h = h
+more-bounced r l (suc m) q h =
+    either-bounced r l (stopped (q .bounces) (q .last)) q (more r m (next r q)) h (more-bounced r l m (next r q) (rw (add-one (q .bounces), h)))
+
+pub run-bounced : (r : Room) (m : ℕ) (l : Light) → run r m l .light ≡ bounced r (run r m l .bounces) l
+unfolding run bounced
+run-bounced r m l = either-bounced r l (eqb (r .clusters .nc) 0) (noBounce l) (more r m (noBounce l)) refl (more-bounced r l m (noBounce l) refl)
 
 -- ---- when it stops
 

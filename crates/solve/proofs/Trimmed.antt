@@ -20,7 +20,7 @@ use Rattle.accept.specs.Tables.{numberAt}
 use Rattle.accept.proofs.Agree.{number-cut}
 use Rattle.transfer.specs.Room.{Clusters, Rows, Room, Light}
 use Rattle.solve.specs.Bounce.{leastArea, memberLight, clusterLight, linkLight, rowLight, newIrr, newRad, bounce, step, greatestStep, change}
-use Rattle.solve.specs.Runs.{Run, unrun, next, stopped, more, run, bounced, clustersAfter}
+use Rattle.solve.specs.Runs.{Run, noBounce, next, stopped, more, run, bounced, clustersAfter}
 use Rattle.transfer.specs.Needs.{ClustersHeld, RowsHeld, Accepted}
 use Rattle.transfer.proofs.Acceptance.{accepted-also}
 use Rattle.solve.specs.Calls.{cutClusters, cutRows, cutRoom, cutLight}
@@ -128,7 +128,7 @@ more-cut r s (suc m) q a =
 -- a run of the room cut to its need
 pub run-cut : (r : Room) (m : ℕ) (l : Light) (s : List Float) → Accepted r l s → run (cutRoom r) m (cutLight (r .n) l) ≡ cutRun (r .n) (run r m l)
 unfolding run
-run-cut r m l s a = rw (more-cut r s m (unrun l) a) (cond-by (cutRun (r .n)) (eqb (r .clusters .nc) 0) (unrun l) (more r m (unrun l)))
+run-cut r m l s a = rw (more-cut r s m (noBounce l) a) (cond-by (cutRun (r .n)) (eqb (r .clusters .nc) 0) (noBounce l) (more r m (noBounce l)))
 
 -- ---- what stays
 
@@ -148,7 +148,7 @@ module _ (r : Room) (P : Light → Type 0) (keeps : (l : Light) → P l → P (b
   -- and from the light
   pub run-keeps : (m : ℕ) (l : Light) → P l → P (run r m l .light)
   unfolding run
-  run-keeps m l h = either (eqb (r .clusters .nc) 0) (unrun l) (more r m (unrun l)) h (more-keeps m (unrun l) h)
+  run-keeps m l h = either (eqb (r .clusters .nc) 0) (noBounce l) (more r m (noBounce l)) h (more-keeps m (noBounce l) h)
 
 -- what irr and rad hold past the surfels
 pub run-past : (r : Room) (m : ℕ) (l : Light)

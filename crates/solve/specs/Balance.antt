@@ -1,5 +1,5 @@
 -- The radiosity balance, Goral et al. 1984: B = E + ρ × (F B), in document 01's order of float steps. B is rad, E the direct light, ρ the albedo; F takes the light of the
--- clusters, each the mean of its members by area, to the surfels by the weights of their rows. Definitions only.
+-- clusters, each the sum of its members' rad × area over the cluster's own area as lent, at least 1e-12, to the surfels by the weights of their rows. Definitions only.
 use mathlib.Core.List.{List}
 use mathlib.Core.Path.{_≡_}
 use Prim.Native.Nat.{ℕ, _<_}
@@ -18,7 +18,7 @@ arriving r b i = rowLight (r .rows) (clusterLight (r .clusters) (r .area) b) i
 abbrev pub rightSide : Room → List Float → ℕ → Vec3
 rightSide r b i = plus (vecAt (r .direct) i) (times (vecAt (r .albedo) i) (arriving r b i))
 
--- B is in balance: at each surfel it is the right side, bit for bit
+-- B is in balance: at each surfel it is the right side, bit for bit, any NaN being the same
 abbrev pub Balanced : Room → List Float → Type 0
 Balanced r b = (i : ℕ) → i < r .n → vecAt b i ≡ rightSide r b i
 

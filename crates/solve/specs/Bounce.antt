@@ -37,15 +37,15 @@ rowLight rs light i =
     total (λ j. linkLight (rs .cluster) (rs .weight) light (from + j)) (numberAt (rs .starts) (i + 1) - from)
 
 -- surfel i's rad, of its direct light, its albedo and its irr: direct + albedo × irr
-abbrev pub lit : List Float → List Float → ℕ → Vec3 → Vec3
-lit direct albedo i irr = plus (vecAt direct i) (times (vecAt albedo i) irr)
+abbrev pub radOf : List Float → List Float → ℕ → Vec3 → Vec3
+radOf direct albedo i irr = plus (vecAt direct i) (times (vecAt albedo i) irr)
 
 -- surfel i's irr after a bounce, all cluster light being of the bounce's start, and its rad
 unfoldable pub newIrr : Room → List Float → ℕ → Vec3
 newIrr r rad i = rowLight (r .rows) (clusterLight (r .clusters) (r .area) rad) i
 
 unfoldable pub newRad : Room → List Float → ℕ → Vec3
-newRad r rad i = lit (r .direct) (r .albedo) i (newIrr r rad i)
+newRad r rad i = radOf (r .direct) (r .albedo) i (newIrr r rad i)
 
 -- the light after a bounce
 unfoldable pub bounce : Room → Light → Light

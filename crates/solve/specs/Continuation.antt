@@ -64,12 +64,12 @@ together q [] = q
 together q (a ∷ l) = together (joined q a) l
 
 -- where no run was made yet: no bounce, "or 0 if none did", the surfels as given
-abbrev pub unmade : Surfels → Made
-unmade s = record { bounces = 0; last = 0f; surfels = s }
+abbrev pub noRun : Surfels → Made
+noRun s = record { bounces = 0; last = 0f; surfels = s }
 
 -- what the runs taken made together
 abbrev pub taken : LitRoom → List Call → Made
-taken g cs = together (unmade (surfels g)) (upTo (runs cs))
+taken g cs = together (noRun (surfels g)) (upTo (runs cs))
 
 -- "one run of the whole list's total by demand 2's bounce, from the room as given"
 abbrev pub oneRun : LitRoom → ℕ → Made
@@ -77,14 +77,14 @@ oneRun g m =
     let q = run (g .room) m (g .light) in
     record { bounces = q .bounces; last = q .last; surfels = surfels (withLight g (q .light)) }
 
--- the entry called with a total, the room as given and some scratch
+-- the entry called with a total, a room as lent and some scratch
 abbrev pub whole : LitRoom → ℕ → List Float → Call
-whole g m s = record { handed = g; limit = m; scratch = s }
+whole h m s = record { handed = h; limit = m; scratch = s }
 
--- a call answers q, and leaves its surfels
+-- a call answers q, and leaves its surfels, cut to their need
 pub record Answers (c : Call) (q : Made) : Type 0 where
   pub answer : outcome c .0 ≡ Done (record { bounces = q .bounces; change = q .last })
-  pub surfels-left : surfels (left c) ≡ q .surfels
+  pub surfels-left : surfels (cut (left c)) ≡ q .surfels
 
 -- "A refused solve leaves every surfel as it was", as lent; and its scratch
 pub record Kept (c : Call) : Type 0 where
@@ -113,9 +113,9 @@ IfRun P c = byAnswer (outcome c .0) Unit (P c)
 -- they do together, and has the last change of the last of them that made a bounce, or 0 if none did. A refused solve leaves every surfel as it was". There is one NaN in Float.
 pub record Continued (g : LitRoom) (cs : List Call) : Type 0 where
   -- the one run, by the definition
-  pub one : oneRun g (limits cs) ≡ taken g cs
-  -- the one run, by the entry, with the scratch of any run of the list
-  pub entry : Each (IfRun (λ c. Answers (whole g (limits cs) (c .scratch)) (taken g cs))) cs
+  pub by-definition : oneRun g (limits cs) ≡ taken g cs
+  -- the one run, by the entry: called with the room as given, in lists of its need or longer ones, and with the scratch of any run of the list
+  pub by-entry : Each (IfRun (λ c. (h : LitRoom) → cut h ≡ g → Answers (whole h (limits cs) (c .scratch)) (taken g cs))) cs
   pub kept : Each (IfRefused Kept) cs
   pub past : Each (IfRun PastKept) cs
 

@@ -16,8 +16,8 @@ pub record Run : Type 0 where
   pub light : Light
 
 -- no bounce made yet
-abbrev pub unrun : Light → Run
-unrun l = record { bounces = 0; last = 0f; light = l }
+abbrev pub noBounce : Light → Run
+noBounce l = record { bounces = 0; last = 0f; light = l }
 
 -- one bounce more
 unfoldable pub next : Room → Run → Run
@@ -40,9 +40,13 @@ unfoldable pub more : Room → ℕ → Run → Run
 more r zero q = q
 more r (suc m) q = cond (stopped (q .bounces) (q .last)) q (more r m (next r q))
 
--- a run of at most m bounces from the light l; without clusters, none
+-- a run so far that goes on by at most m bounces; without clusters, by none
+abbrev pub onward : Room → ℕ → Run → Run
+onward r m q = cond (eqb (r .clusters .nc) 0) q (more r m q)
+
+-- a run of at most m bounces from the light l
 unfoldable pub run : Room → ℕ → Light → Run
-run r m l = cond (eqb (r .clusters .nc) 0) (unrun l) (more r m (unrun l))
+run r m l = onward r m (noBounce l)
 
 -- k bounces from the light l
 unfoldable pub bounced : Room → ℕ → Light → Light

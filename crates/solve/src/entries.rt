@@ -6,10 +6,10 @@ ghost use mathlib.Core.Path.{_≡_};
 ghost use Rattle.transfer.specs.Room.{roomIn, lightIn, lightOut};
 ghost use Rattle.solve.specs.Answers.{solveAnswer};
 
-// Bounces the light of n surfels until it stands still or the limit is made, or refuses the call by
-// document 01's number and then writes nothing. irr becomes the irradiance of the last bounce, rad
-// the light that each surfel then gives off, and scratch, three floats a cluster, the clusters'
-// light of the last bounce.
+// Bounces the light of n surfels until the last change is under 0.0001 or the limit is made, or
+// refuses the call by document 01's number and then writes nothing. irr becomes the irradiance of
+// the last bounce, rad the light that each surfel then gives off, and scratch, three floats a
+// cluster, the clusters' light of the last bounce. If no bounce is made, all three stay as lent.
 pub fn solve(
     n: usize,
     nc: usize,

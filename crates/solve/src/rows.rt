@@ -7,7 +7,7 @@ ghost use lib.ListN.{length};
 ghost use Rattle.vector.specs.Flat.{vecAt, written};
 ghost use Rattle.vector.specs.Fold.{total};
 ghost use Rattle.transfer.specs.Room.{rowsOf, rowsIn};
-ghost use Rattle.solve.specs.Bounce.{linkLight, rowLight, lit, step, greatestStep};
+ghost use Rattle.solve.specs.Bounce.{linkLight, rowLight, radOf, step, greatestStep};
 ghost use Rattle.transfer.specs.Needs.{LinksHeld, RowsHeld};
 
 // Every surfel's irr and rad, and the greatest absolute step of any channel of rad.
@@ -32,10 +32,10 @@ pub fn update_surfels(
     ensures { λ r. ⌜ now (irr .exit)
         ≡ written (rowLight (rowsIn links starts «link_cluster» «link_weight») (vecAt (now (light .entry)))) n (now (irr .entry)) ⌝ }
     ensures { λ r. ⌜ now (rad .exit)
-        ≡ written (λ i. lit (now (direct .entry)) (now (albedo .entry)) i
+        ≡ written (λ i. radOf (now (direct .entry)) (now (albedo .entry)) i
         (rowLight (rowsIn links starts «link_cluster» «link_weight») (vecAt (now (light .entry))) i)) n (now (rad .entry)) ⌝ }
     ensures { λ r. ⌜ r
-        ≡ greatestStep (vecAt (now (rad .entry))) (λ i. lit (now (direct .entry)) (now (albedo .entry)) i
+        ≡ greatestStep (vecAt (now (rad .entry))) (λ i. radOf (now (direct .entry)) (now (albedo .entry)) i
         (rowLight (rowsIn links starts «link_cluster» «link_weight») (vecAt (now (light .entry))) i)) n ⌝ }
 {
     let mut change = 0.0;
@@ -51,7 +51,7 @@ pub fn update_surfels(
             from,
             wide(starts[i + 1]) - from,
         );
-        let new = lit(direct, albedo, i, row);
+        let new = rad_of(direct, albedo, i, row);
         change = float::max(change, step(vec_at(rad, i), new));
         vector::put(irr, i, row);
         vector::put(rad, i, new);
@@ -86,10 +86,10 @@ fn row_light(
 }
 
 // The rad of surfel i that this irr gives.
-fn lit(direct: &[f32], albedo: &[f32], i: usize, irr: Vec3) -> Vec3
+fn rad_of(direct: &[f32], albedo: &[f32], i: usize, irr: Vec3) -> Vec3
     requires { ⌜ 3 * i + 2 < length (now direct) ⌝ }
     requires { ⌜ 3 * i + 2 < length (now albedo) ⌝ }
-    ensures { λ r. ⌜ r ≡ lit (now (direct .entry)) (now (albedo .entry)) i irr ⌝ }
+    ensures { λ r. ⌜ r ≡ radOf (now (direct .entry)) (now (albedo .entry)) i irr ⌝ }
 {
     vec_at(direct, i).plus(vec_at(albedo, i).times(irr))
 }

@@ -1,4 +1,4 @@
-// One bounce, and bounces until the light stands still or their limit is made.
+// One bounce, and bounces until the last change is under 0.0001 or their limit is made.
 use crate::SolveStats;
 use crate::clusters::update_clusters;
 use crate::rows::update_surfels;

@@ -1,4 +1,4 @@
--- What the functions beneath the entries ask of each other. Definitions only.
+-- What the functions beneath the entries ask of each other. No public contract rests on these. Definitions only.
 use mathlib.Core.List.{List}
 use Prim.Native.Nat.{ℕ, _+_, _*_, _≤_, _<_}
 use lib.Ieee.{Float}

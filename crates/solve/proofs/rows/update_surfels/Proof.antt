@@ -7,8 +7,8 @@ use borrow.Author.Needs.{needs}
 use Rattle.vector.specs.Flat.{vecAt, written}
 use Rattle.vector.proofs.Replaced.{written-none, written-put, at-next}
 use Rattle.transfer.specs.Room.{rowsOf}
-use Rattle.solve.specs.Bounce.{rowLight, lit, greatestStep}
-use Rattle.solve.proofs.Lighted.{row-light-by, lit-by, steps-none, steps-more}
+use Rattle.solve.specs.Bounce.{rowLight, radOf, greatestStep}
+use Rattle.solve.proofs.Lighted.{row-light-by, rad-of-by, steps-none, steps-more}
 use Rattle.solve.proofs.rows.update_surfels.Statement.{statement}
 use Rattle.solve.proofs.rows.update_surfels.Tie as tie
 
@@ -17,8 +17,8 @@ Inv-loop n nc links albedo direct starts link-cluster link-weight light irr₀ r
     let row = rowLight (rowsOf links starts link-cluster link-weight) (vecAt light) in
     (i ≤ n)
     × (irr ≡ written row i irr₀)
-    × (rad ≡ written (λ k. lit direct albedo k (row k)) i rad₀)
-    × (change ≡ greatestStep (vecAt rad₀) (λ k. lit direct albedo k (row k)) i)
+    × (rad ≡ written (λ k. radOf direct albedo k (row k)) i rad₀)
+    × (change ≡ greatestStep (vecAt rad₀) (λ k. radOf direct albedo k (row k)) i)
     × (length irr ≡ length irr₀)
     × (length rad ≡ length rad₀)
 
@@ -68,7 +68,7 @@ loop-again c =
     let i = lp .loop .i in
     let light = vecAt (s .args .light .now) in
     let row = row-light-by rs light i (r .before .before .before .wide .ensures) (r .before .wide2 .ensures) (r .row-light .ensures) in
-    let new = lit-by (s .args .direct .now) (s .args .albedo .now) (rowLight rs light) i row (l .lit .ensures) in (
+    let new = rad-of-by (s .args .direct .now) (s .args .albedo .now) (rowLight rs light) i row (l .rad-of .ensures) in (
       omega (arith, t .loop-test .taken),
       written-put _ i _ (lp .loop .inv .1) (omega (arith, t .loop-test .taken, s .pre .1)) row (p1 .put .ensures),
       written-put _ i _ (lp .loop .inv .2) (omega (arith, t .loop-test .taken, s .pre .1)) new (p2 .put2 .ensures),
