@@ -1,7 +1,7 @@
 -- A bounce of the code is the bounce of the definition: rows that read the stored light of the clusters read the clusters' light. Assumes nothing.
 use mathlib.Core.List.{List}
 use mathlib.Core.Path.{_≡_, ap, _∙_}
-use Prim.Native.Nat.{ℕ, _+_, _<_}
+use Prim.Native.Nat.{ℕ, _+_, _*_, _<_, _≤_}
 use native.Mathlib.Omega.{arith}
 use lib.Ieee.{Float}
 use lib.ListN.{length}
@@ -44,22 +44,26 @@ module _ {r : Room} {l : Light} {s light : List Float} (ok : Accepted r l s) (st
       let end = ok .rows-held .inside (i + 1) (omega arith) in
       fold-same plus zeroVec _ _ _ (λ j k. links-agree (numberAt (r .rows .starts) i + j) (omega (arith, k, up, end)))
 
-  -- which gives the new rad
-  rad-agrees : (i : ℕ) → i < r .n → radOf (r .direct) (r .albedo) i (rowLight (r .rows) (vecAt light) i) ≡ newRad r (l .rad) i
-  unfolding newRad
-  rad-agrees i h = ap (radOf (r .direct) (r .albedo) i) (irr-agrees i h)
+  -- irr as the rows write it
+  module _ {irr : List Float} (brought : irr ≡ written (rowLight (r .rows) (vecAt light)) (r .n) (l .irr)) where
+    -- it has the surfels
+    pub irr-held : 3 * r .n ≤ length irr
+    irr-held = let e = ap length brought ∙ length-written (rowLight (r .rows) (vecAt light)) (r .n) (l .irr) (ok .irrs) in omega (arith, e, ok .irrs)
 
-  -- irr and rad as the rows write them are the light after the bounce
-  pub bounce-by : {irr rad : List Float}
-      → irr ≡ written (rowLight (r .rows) (vecAt light)) (r .n) (l .irr)
-      → rad ≡ written (λ i. radOf (r .direct) (r .albedo) i (rowLight (r .rows) (vecAt light) i)) (r .n) (l .rad)
-      → lightOf irr rad ≡ bounce r l
-  unfolding bounce
-  bounce-by p q =
-      rw (p ∙ written-same _ (newIrr r (l .rad)) (r .n) (l .irr) irr-agrees, q ∙ written-same _ (newRad r (l .rad)) (r .n) (l .rad) rad-agrees)
+    -- and gives the new rad
+    rad-agrees : (i : ℕ) → i < r .n → radOf (r .direct) (r .albedo) i (vecAt irr i) ≡ newRad r (l .rad) i
+    unfolding newRad
+    rad-agrees i h =
+        ap (radOf (r .direct) (r .albedo) i)
+        (ap (λ (d : List Float). vecAt d i) brought ∙ at-written (rowLight (r .rows) (vecAt light)) (r .n) i (l .irr) h ∙ irr-agrees i h)
 
-  -- the greatest step of rad is the change
-  pub change-by : {d : Float}
-      → d ≡ greatestStep (vecAt (l .rad)) (λ i. radOf (r .direct) (r .albedo) i (rowLight (r .rows) (vecAt light) i)) (r .n) → d ≡ change r (l .rad)
-  unfolding change greatestStep
-  change-by p = p ∙ fold-same greater 0f _ _ (r .n) (λ i h. ap (step (vecAt (l .rad) i)) (rad-agrees i h))
+    -- so it is, with the rad that it gives, the light after the bounce
+    pub bounce-by : {rad : List Float} → rad ≡ written (λ i. radOf (r .direct) (r .albedo) i (vecAt irr i)) (r .n) (l .rad) → lightOf irr rad ≡ bounce r l
+    unfolding bounce
+    bounce-by q =
+        rw (brought ∙ written-same _ (newIrr r (l .rad)) (r .n) (l .irr) irr-agrees, q ∙ written-same _ (newRad r (l .rad)) (r .n) (l .rad) rad-agrees)
+
+    -- and the greatest step of rad is the change
+    pub change-by : {d : Float} → d ≡ greatestStep (vecAt (l .rad)) (λ i. radOf (r .direct) (r .albedo) i (vecAt irr i)) (r .n) → d ≡ change r (l .rad)
+    unfolding change greatestStep
+    change-by p = p ∙ fold-same greater 0f _ _ (r .n) (λ i h. ap (step (vecAt (l .rad) i)) (rad-agrees i h))

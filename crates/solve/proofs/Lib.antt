@@ -1,5 +1,6 @@
 -- The laws of the solve, for the proofs here and for callers.
 pub mod Lighted
+pub mod Fronts
 pub mod Bounced
 pub mod Going
 pub mod Answering

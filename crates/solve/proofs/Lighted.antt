@@ -1,8 +1,10 @@
 -- The light of one cluster and of one row, and the greatest step with one vector more: what the loops over clusters and surfels cite. Assumes nothing.
 use mathlib.Core.List.{List}
 use mathlib.Core.Path.{_≡_}
-use Prim.Native.Nat.{ℕ, _+_, _-_}
+use Prim.Native.Nat.{ℕ, _+_, _*_, _-_, _<_, _≤_}
+use native.Mathlib.Omega.{arith}
 use lib.Ieee.{Float}
+use lib.ListN.{length}
 use Rattle.float.specs.Arithmetic.{0f}
 use Rattle.float.specs.Column.{floatAt}
 use Rattle.float.specs.Order.{greater}
@@ -12,7 +14,8 @@ use Rattle.vector.specs.Vector.{over}
 use Rattle.vector.proofs.Sums.{fold-none, fold-more}
 use Rattle.accept.specs.Tables.{numberAt}
 use Rattle.transfer.specs.Room.{Clusters, Rows}
-use Rattle.solve.specs.Bounce.{leastArea, memberLight, clusterLight, linkLight, rowLight, radOf, step, greatestStep}
+use Rattle.transfer.specs.Needs.{LinksHeld, RowsHeld}
+use Rattle.solve.specs.Bounce.{leastArea, memberLight, clusterLight, linkLight, rowLight, step, greatestStep}
 
 -- the sum s over the members from `from` on, divided by the larger of the area and 1e-12, is the cluster's light
 pub cluster-light-by : (cs : Clusters) (area rad : List Float) (c : ℕ) {from count : ℕ} {s v : Vec3} {d : Float}
@@ -25,6 +28,19 @@ pub cluster-light-by : (cs : Clusters) (area rad : List Float) (c : ℕ) {from c
 unfolding clusterLight
 cluster-light-by cs area rad c p q r e f = rw (f, e, r, p, q)
 
+-- a link has its number, its weight and its cluster's light
+pub link-held : {nc links : ℕ} {cluster : List ℕ} {weight light : List Float} → LinksHeld nc links cluster weight light
+    → (k : ℕ) → k < links → (k < length cluster) × ((k < length weight) × (3 * numberAt cluster k + 2 < length light))
+link-held h k e = (omega (arith, h .clusters, e), (omega (arith, h .weights, e), omega (arith, h .below k e, h .lights)))
+
+-- a row begins before it ends, and so many of its links are among the links
+pub row-held : {n nc : ℕ} {rs : Rows} {light : List Float} → RowsHeld n nc rs light → (i : ℕ) → i < n → {from to : ℕ}
+    → from ≡ numberAt (rs .starts) i → to ≡ numberAt (rs .starts) (i + 1) → (from ≤ to) × ((m : ℕ) → m ≤ to - from → from + m ≤ rs .links)
+row-held h i e p q =
+    let up = h .rising i e in
+    let end = h .inside (i + 1) (omega (arith, e)) in
+    (omega (arith, up, p, q), λ m k. omega (arith, up, end, p, q, k))
+
 -- the sum s over the links from one start up to the next is what the row brings
 pub row-light-by : (rs : Rows) (light : ℕ → Vec3) (i : ℕ) {from to : ℕ} {s : Vec3}
     → from ≡ numberAt (rs .starts) i
@@ -33,10 +49,6 @@ pub row-light-by : (rs : Rows) (light : ℕ → Vec3) (i : ℕ) {from to : ℕ} 
     → s ≡ rowLight rs light i
 unfolding rowLight
 row-light-by rs light i p q r = rw (r, p, q)
-
--- the rad that the irr f i gives
-pub rad-of-by : (direct albedo : List Float) (f : ℕ → Vec3) (i : ℕ) {irr v : Vec3} → irr ≡ f i → v ≡ radOf direct albedo i irr → v ≡ radOf direct albedo i (f i)
-rad-of-by direct albedo f i p q = rw (q, p)
 
 module _ (from to : ℕ → Vec3) where
   -- no step is made yet

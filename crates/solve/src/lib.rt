@@ -5,6 +5,7 @@ mod clusters;
 mod entries;
 mod rows;
 mod running;
+mod surfels;
 
 pub use entries::solve;
 pub use running::settled;

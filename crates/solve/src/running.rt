@@ -1,7 +1,8 @@
 // One bounce, and bounces until the last change is under 0.0001 or their limit is made.
 use crate::SolveStats;
 use crate::clusters::update_clusters;
-use crate::rows::update_surfels;
+use crate::rows::update_irr;
+use crate::surfels::update_rad;
 ghost use mathlib.Core.Path.{_≡_};
 ghost use Rattle.vector.specs.Flat.{written};
 ghost use Rattle.transfer.specs.Room.{clustersOf, rowsOf, roomOf, roomIn, clustersIn, lightOf, lightIn, lightOut};
@@ -112,19 +113,8 @@ fn bounce(
         rad,
         light,
     );
-    update_surfels(
-        n,
-        nc,
-        links,
-        albedo,
-        direct,
-        starts,
-        link_cluster,
-        link_weight,
-        light,
-        irr,
-        rad,
-    )
+    update_irr(n, nc, links, starts, link_cluster, link_weight, light, irr);
+    update_rad(n, albedo, direct, irr, rad)
 }
 
 // Whether a run that made so many bounces stops early: it made one, and its last change is under

@@ -2,4 +2,5 @@
 pub mod Edges
 pub mod Sums
 pub mod Replaced
+pub mod Puts
 pub mod Readings

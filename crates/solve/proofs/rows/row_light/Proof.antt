@@ -6,43 +6,40 @@ use borrow.Author.Needs.{needs}
 use Rattle.vector.specs.Flat.{vecAt}
 use Rattle.vector.specs.Fold.{total}
 use Rattle.vector.specs.Vector.{plus, zeroVec}
-use Rattle.vector.proofs.Sums.{fold-none, fold-more}
+use Rattle.vector.proofs.Sums.{fold-more}
 use Rattle.solve.specs.Bounce.{linkLight}
+use Rattle.solve.proofs.Lighted.{link-held}
 use Rattle.solve.proofs.rows.row_light.Statement.{statement}
 use Rattle.solve.proofs.rows.row_light.Tie as tie
 
 abbrev Inv-loop : tie.InvT-loop
-Inv-loop nc links link-cluster link-weight light from count sum₀ j₀ sum j =
+Inv-loop nc links link-cluster link-weight light from summed count sum₀ j₀ sum j =
     (j ≤ count) × (sum ≡ total (λ k. linkLight link-cluster link-weight (vecAt light) (from + k)) j)
 
 abbrev μ-loop : tie.MeasureT-loop
-μ-loop nc links link-cluster link-weight light from count sum₀ j₀ sum j = count - j
+μ-loop nc links link-cluster link-weight light from summed count sum₀ j₀ sum j = count - j
 
 loop-holds : tie.Need-loop-holds Inv-loop μ-loop
-loop-holds c = (omega arith, fold-none plus zeroVec _ (c .zero .ensures))
+loop-holds c =
+    let s = c .before .before .before in
+    (s .pre .0, s .pre .1 .1 .1)
 
-vec-at-requires : tie.Need-vec-at-requires Inv-loop μ-loop
-vec-at-requires c κs =
-    let lp = c .before .before .before in
-    let s = lp .before .before .before .before .before in
-    let h = s .pre .1 .below (s .args .from + lp .loop .j) (omega (arith, s .pre .0, lp .loop .inv .0, c .before .before .loop-test .taken)) in
-    omega (arith, h, s .pre .1 .lights, c .wide .ensures)
+link-light-requires : tie.Need-link-light-requires Inv-loop μ-loop
+link-light-requires c κs =
+    let s = c .before .before .before .before .before in
+    link-held (s .pre .1 .1 .0) (s .args .from + c .before .loop .j) (omega (arith, c .loop-test .taken, s .pre .1 .0))
 
 loop-again : tie.Need-loop-again Inv-loop μ-loop
 loop-again c =
-    let v = c .before .before .before in
-    let lp = v .before .before .before .before in (
-      omega (arith, v .before .before .before .loop-test .taken),
-      fold-more plus zeroVec _ (lp .loop .j) (lp .loop .inv .1) (rw (c .before .scaled .ensures, v .vec-at .ensures, v .before .wide .ensures)) (c .plus .ensures),
-    )
+    let t = c .before .before in
+    let lp = t .before in
+    (omega (arith, t .loop-test .taken), fold-more plus zeroVec _ (lp .loop .j) (lp .loop .inv .1) (c .before .link-light .ensures) (c .plus .ensures))
 
 returns : tie.Need-returns Inv-loop μ-loop
 returns c =
     let lp = c .before in
-    let e : lp .loop .j ≡ lp .before .before .before .before .before .args .count = omega (arith, c .loop-test .left, lp .loop .inv .0) in
+    let e : lp .loop .j ≡ lp .before .before .before .before .args .count = omega (arith, c .loop-test .left, lp .loop .inv .0) in
     rw e at (lp .loop .inv .1)
 
 pub row-light-spec : {M : Type 1} → statement M
-row-light-spec =
-    tie.close
-    (tie.spec Inv-loop μ-loop (λ c κs. search needs) loop-holds (λ c. search needs) (λ c. search needs) (λ c. search needs) (λ c κs. search needs) vec-at-requires (λ c. search needs) (λ c. search needs) (λ c. search needs) (λ c κs. search needs) (λ c κs. search needs) (λ c. search needs) (λ c. search needs) loop-again returns)
+row-light-spec = tie.close (tie.spec Inv-loop μ-loop loop-holds (λ c. search needs) link-light-requires (λ c κs. search needs) (λ c. search needs) (λ c. search needs) loop-again returns)

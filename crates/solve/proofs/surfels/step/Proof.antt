@@ -1,7 +1,7 @@
--- `solve::rows::step` meets its contract. The calls are put together. Assumes nothing.
+-- `solve::surfels::step` meets its contract. The calls are put together. Assumes nothing.
 use borrow.Author.Needs.{needs}
-use Rattle.solve.proofs.rows.step.Statement.{statement}
-use Rattle.solve.proofs.rows.step.Tie as tie
+use Rattle.solve.proofs.surfels.step.Statement.{statement}
+use Rattle.solve.proofs.surfels.step.Tie as tie
 
 returns : tie.Need-returns
 returns c = rw (c .max-element .ensures, c .before .abs .ensures, c .before .before .minus .ensures)

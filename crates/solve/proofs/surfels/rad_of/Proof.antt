@@ -1,7 +1,7 @@
--- `solve::rows::rad_of` meets its contract. The calls are put together. Assumes nothing.
+-- `solve::surfels::rad_of` meets its contract. The calls are put together. Assumes nothing.
 use borrow.Author.Needs.{needs}
-use Rattle.solve.proofs.rows.rad_of.Statement.{statement}
-use Rattle.solve.proofs.rows.rad_of.Tie as tie
+use Rattle.solve.proofs.surfels.rad_of.Statement.{statement}
+use Rattle.solve.proofs.surfels.rad_of.Tie as tie
 
 returns : tie.Need-returns
 returns c = rw (c .plus .ensures, c .before .times .ensures, c .before .before .vec-at2 .ensures, c .before .before .before .vec-at .ensures)
