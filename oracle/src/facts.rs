@@ -3,9 +3,9 @@
 //! these tests.
 
 use interflect::formfactor::{self, Cluster, Transfer};
-use interflect::scene::{open::of_shapes, Scene};
+use interflect::scene::{open::of_shapes, QuadLight, Scene};
 use interflect::sdf::{Object, Prim};
-use interflect::solve::solve;
+use interflect::solve::{light_surfels, solve};
 use interflect::surfel::{self, gather, Grid, Surfel};
 use interflect::{ltc, trace, Vec3};
 
@@ -105,6 +105,116 @@ fn five_bounces_and_two_are_seven() {
     solve(&mut twice, &transfer, 2);
     assert_eq!(once[0].irr.x.to_bits(), twice[0].irr.x.to_bits());
     assert_eq!(once[0].rad.x.to_bits(), twice[0].rad.x.to_bits());
+}
+
+/// Q's light after the last bounce, that of its cluster too: a black surfel that belongs to no
+/// cluster, with one link of weight 1, shows it.
+#[test]
+fn the_last_light_of_q() {
+    let ([surfel], mut transfer) = room_q();
+    let mut black = surfel;
+    (black.albedo, black.direct, black.rad) = (Vec3::ZERO, Vec3::ZERO, Vec3::ZERO);
+    (transfer.starts, transfer.idx) = (vec![0, 1, 2], vec![0, 0]);
+    (transfer.w, transfer.links) = (vec![0.5, 1.0], 2);
+    let mut surfels = [surfel, black];
+    assert_eq!(solve(&mut surfels, &transfer, 12).iterations, 7);
+    assert_eq!(surfels[0].irr.x.to_bits(), 0x3F2AA800);
+    assert_eq!(surfels[0].rad.x.to_bits(), 0x3FAAAA00);
+    assert_eq!(surfels[1].irr.x.to_bits(), 0x3FAAA800);
+}
+
+/// A limit of 8 makes seven bounces, as one of 12 does; a solve after that makes one more.
+#[test]
+fn eight_bounces_and_four() {
+    let (mut surfels, transfer) = room_q();
+    let first = solve(&mut surfels, &transfer, 8);
+    assert_eq!(first.iterations, 7);
+    assert_eq!(first.residual.to_bits(), 0x38800000);
+    assert_eq!(solve(&mut surfels, &transfer, 4).iterations, 1);
+}
+
+/// "A limit of 0: 0 bounces, last change 0", and the same with no clusters.
+#[test]
+fn no_bounce() {
+    let (mut surfels, mut transfer) = room_q();
+    let stats = solve(&mut surfels, &transfer, 0);
+    assert_eq!((stats.iterations, stats.residual.to_bits()), (0, 0));
+    (transfer.nc, transfer.links) = (0, 0);
+    let stats = solve(&mut surfels, &transfer, 12);
+    assert_eq!((stats.iterations, stats.residual.to_bits()), (0, 0));
+    assert_eq!(surfels[0].rad.x, 1.0);
+}
+
+/// No surfel and a cluster: one bounce, "starting at 0" and so settled.
+#[test]
+fn one_bounce_of_no_surfel() {
+    let (_, mut transfer) = room_q();
+    transfer.clusters[0].members.clear();
+    let stats = solve(&mut [], &transfer, 12);
+    assert_eq!((stats.iterations, stats.residual.to_bits()), (1, 0));
+}
+
+/// Room Q without its light but for this rad, and black: the first bounce takes that away.
+fn bounces_of_a_change(change: f32) -> u32 {
+    let ([mut surfel], transfer) = room_q();
+    (surfel.albedo, surfel.direct) = (Vec3::ZERO, Vec3::ZERO);
+    surfel.rad = Vec3::splat(change);
+    solve(&mut [surfel], &transfer, 12).iterations
+}
+
+/// "a run stops when that is under 0.0001".
+#[test]
+fn a_change_of_0_0001_is_not_the_last() {
+    assert_eq!(bounces_of_a_change(0.0001), 2);
+    assert_eq!(bounces_of_a_change(-0.0001), 2);
+    assert_eq!(bounces_of_a_change(0.0001f32.next_down()), 1);
+}
+
+/// The cluster's light is divided by its area: multiplied by one over it, 1 would be 3F7FFFFF.
+#[test]
+fn the_light_of_a_cluster_is_divided_by_its_area() {
+    let ([mut surfel], mut transfer) = room_q();
+    surfel.area = 41.0;
+    transfer.clusters[0].area = 41.0;
+    transfer.w[0] = 1.0;
+    let mut surfels = [surfel];
+    solve(&mut surfels, &transfer, 1);
+    assert_eq!(surfels[0].irr.x, 1.0);
+}
+
+/// A link of weight 0 is not left out: infinite light makes it NaN.
+#[test]
+fn a_link_of_weight_0_is_not_left_out() {
+    let ([mut surfel], mut transfer) = room_q();
+    surfel.rad = Vec3::splat(f32::INFINITY);
+    transfer.w[0] = 0.0;
+    let mut surfels = [surfel];
+    solve(&mut surfels, &transfer, 1);
+    assert!(surfels[0].irr.x.is_nan());
+}
+
+/// "A reset (from `light_surfels`) sets `direct` and `rad` to the given light and `irr` to zero".
+#[test]
+fn a_reset_sets_the_light() {
+    let corner = |x: f32, y: f32| Vec3::new(x, y, 2.0);
+    let mut scene = of_shapes(Vec::new(), Vec::new());
+    scene.lights = vec![QuadLight {
+        verts: [
+            corner(-1.0, -1.0),
+            corner(-1.0, 1.0),
+            corner(1.0, 1.0),
+            corner(1.0, -1.0),
+        ],
+        emit: Vec3::new(1.0, 2.0, 3.0),
+    }];
+    let (mut surfels, _) = room_q();
+    surfels[0].irr = Vec3::splat(f32::NAN);
+    light_surfels(&scene, &mut surfels);
+    let [s] = surfels;
+    let bits = |v: Vec3| [v.x, v.y, v.z].map(f32::to_bits);
+    assert!(s.direct.x > 0.0 && s.direct.x != 1.0);
+    assert_eq!(bits(s.rad), bits(s.direct));
+    assert_eq!(bits(s.irr), [0; 3]);
 }
 
 #[test]

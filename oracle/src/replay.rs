@@ -8,12 +8,17 @@ mod queries;
 mod random;
 mod readings;
 mod refusals;
+mod rooms;
 mod scene_cases;
 mod sheets;
+mod solve_cases;
+mod solve_refusals;
+mod solves;
 mod surfel_cases;
 mod tables;
 
 use cases::Case;
+use rooms::Room;
 use sheets::Sheet;
 use std::path::Path;
 use std::{env, fs, io};
@@ -34,7 +39,11 @@ fn main() -> io::Result<()> {
         &crates.join("replay_surfel"),
         &surfel_cases::all(),
         |case| (!sheet.store(case)).then(|| readings::answer(&mut sheet, case)),
-    )
+    )?;
+    let mut room = Room::new();
+    write(&crates.join("replay_solve"), &solve_cases::all(), |case| {
+        (!room.store(case)).then(|| solves::answer(&mut room, case))
+    })
 }
 
 /// Writes the cases and their answers into a folder, a line each, and prints how many there are. A

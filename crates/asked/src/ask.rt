@@ -30,7 +30,7 @@ pub fn dist_mat(s: Stored, p: Vec3) -> Words {
         p,
     );
     match answer {
-        DistAnswer::Refused(number) => words::refused(number),
+        DistAnswer::Refused(number) => replay::refused(number),
         DistAnswer::Done(done) => words::distance(done),
     }
 }
@@ -39,7 +39,7 @@ pub fn dist_mat(s: Stored, p: Vec3) -> Words {
 pub fn dist_any(s: Stored, p: Vec3) -> Words {
     let number = refusal(s);
     if number != 0 {
-        return words::refused(number);
+        return replay::refused(number);
     }
     let kinds = s.kinds;
     let lengths = s.lengths;
@@ -74,7 +74,7 @@ pub fn normal(s: Stored, p: Vec3) -> Words {
         p,
     );
     match answer {
-        NormalAnswer::Refused(number) => words::refused(number),
+        NormalAnswer::Refused(number) => replay::refused(number),
         NormalAnswer::Done(done) => words::normal(done),
     }
 }
@@ -83,7 +83,7 @@ pub fn normal(s: Stored, p: Vec3) -> Words {
 pub fn normal_any(s: Stored, p: Vec3) -> Words {
     let number = refusal(s);
     if number != 0 {
-        return words::refused(number);
+        return replay::refused(number);
     }
     let kinds = s.kinds;
     let lengths = s.lengths;
@@ -105,7 +105,7 @@ pub fn normal_any(s: Stored, p: Vec3) -> Words {
 pub fn project(s: Stored, p: Vec3, eps: f32, diag: f32) -> Words {
     let number = refusal(s);
     if number != 0 {
-        return words::refused(number);
+        return replay::refused(number);
     }
     let kinds = s.kinds;
     let lengths = s.lengths;
@@ -145,7 +145,7 @@ pub fn trace(s: Stored, ro: Vec3, rd: Vec3, tmin: f32, tmax: f32) -> Words {
         tmax,
     );
     match answer {
-        TraceAnswer::Refused(number) => words::refused(number),
+        TraceAnswer::Refused(number) => replay::refused(number),
         TraceAnswer::Done(done) => words::traced(done),
     }
 }
@@ -154,7 +154,7 @@ pub fn trace(s: Stored, ro: Vec3, rd: Vec3, tmin: f32, tmax: f32) -> Words {
 pub fn trace_any(s: Stored, ro: Vec3, rd: Vec3, tmin: f32, tmax: f32) -> Words {
     let number = refusal(s);
     if number != 0 {
-        return words::refused(number);
+        return replay::refused(number);
     }
     let kinds = s.kinds;
     let lengths = s.lengths;
@@ -196,7 +196,7 @@ pub fn soft_shadow(s: Stored, ro: Vec3, rd: Vec3, tmin: f32, tmax: f32, k: f32) 
         k,
     );
     match answer {
-        ShadowAnswer::Refused(number) => words::refused(number),
+        ShadowAnswer::Refused(number) => replay::refused(number),
         ShadowAnswer::Done(done) => words::shadow(done),
     }
 }
@@ -205,7 +205,7 @@ pub fn soft_shadow(s: Stored, ro: Vec3, rd: Vec3, tmin: f32, tmax: f32, k: f32) 
 pub fn shadow_any(s: Stored, ro: Vec3, rd: Vec3, tmin: f32, tmax: f32, k: f32) -> Words {
     let number = refusal(s);
     if number != 0 {
-        return words::refused(number);
+        return replay::refused(number);
     }
     let kinds = s.kinds;
     let lengths = s.lengths;
@@ -246,7 +246,7 @@ pub fn closure(s: Stored, p: Vec3, n: Vec3, tmax: f32) -> Words {
         tmax,
     );
     match answer {
-        ClosureAnswer::Refused(number) => words::refused(number),
+        ClosureAnswer::Refused(number) => replay::refused(number),
         ClosureAnswer::Done(done) => words::closure(done),
     }
 }
@@ -255,7 +255,7 @@ pub fn closure(s: Stored, p: Vec3, n: Vec3, tmax: f32) -> Words {
 pub fn closure_any(s: Stored, p: Vec3, n: Vec3, tmax: f32) -> Words {
     let number = refusal(s);
     if number != 0 {
-        return words::refused(number);
+        return replay::refused(number);
     }
     let kinds = s.kinds;
     let lengths = s.lengths;

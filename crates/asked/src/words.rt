@@ -2,16 +2,12 @@
 use field::DistHit;
 use field::Projected;
 use replay::Words;
+use replay::refused;
 use scene::Closure;
 use scene::Found;
 use scene::Shadow;
 use scene::Traced;
 use vector::Vec3;
-
-// A refusal's number alone; 0 starts every other answer.
-pub fn refused(number: u32) -> Words {
-    Words::none().with(number)
-}
 
 // The distance and the material.
 pub fn distance(hit: DistHit) -> Words {

@@ -1,9 +1,9 @@
 // The stored grid, built and listed.
 use crate::Asked;
-use crate::part;
 use crate::words;
 use grid::GridAnswer;
 use grid::NearAnswer;
+use replay::part;
 use stored_grid::Bounds;
 use stored_grid::Lent;
 use stored_grid::Stored;

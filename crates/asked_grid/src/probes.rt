@@ -1,7 +1,7 @@
 // Readings at the first of the stored probes.
 use crate::Asked;
-use crate::part;
 use crate::words;
+use replay::part;
 use stored_grid::Bounds;
 use stored_grid::Lent;
 use stored_grid::Stored;

@@ -1,7 +1,7 @@
 // Readings of the stored surfels.
-use crate::part;
 use crate::words;
 use replay::Words;
+use replay::part;
 use stored_grid::Bounds;
 use stored_grid::Lent;
 use stored_grid::Stored;

@@ -2,6 +2,8 @@
 use grid::GridAnswer;
 use grid::NearAnswer;
 use replay::Words;
+use replay::refused;
+use replay::short;
 use surfel::GatherAllAnswer;
 use surfel::GatherAnswer;
 use surfel::Reading;
@@ -42,14 +44,4 @@ pub fn read_all(answer: GatherAllAnswer) -> Words {
         GatherAllAnswer::Refused(number) => refused(number),
         GatherAllAnswer::Done => refused(0),
     }
-}
-
-// A refusal's number alone; 0 starts every other answer.
-fn refused(number: u32) -> Words {
-    Words::none().with(number)
-}
-
-// A number as a word, as far as it fits.
-fn short(x: usize) -> u32 {
-    (x % 4294967296) as u32
 }

@@ -1,9 +1,11 @@
-// Words put together one after the other.
+// Words put together one after the other, and what words are read as.
 use crate::Words;
+use float::of_bits;
 use vector::Vec3;
 ghost use mathlib.Core.Path.{_≡_};
 ghost use lib.Ieee.{binary32, toBits};
-ghost use Rattle.replay.specs.Words.{none, with as Words·with, withVector};
+ghost use Prim.Native.Nat.{_%_};
+ghost use Rattle.replay.specs.Words.{none, with as Words·with, withVector, vectorOf};
 
 impl Words {
     // No words.
@@ -43,5 +45,30 @@ impl Words {
         ensures { λ r. ⌜ r ≡ withVector self v ⌝ }
     {
         self.with_float(v.x).with_float(v.y).with_float(v.z)
+    }
+}
+
+// A refusal's number alone; 0 starts every other answer.
+pub fn refused(number: u32) -> Words
+    ensures { λ r. ⌜ r ≡ Words·with none number ⌝ }
+{
+    Words::none().with(number)
+}
+
+// A number as a word, as far as it fits.
+pub fn short(x: usize) -> u32
+    ensures { λ r. ⌜ r ≡ x % 4294967296 ⌝ }
+{
+    (x % 4294967296) as u32
+}
+
+// The vector of three words.
+pub fn vec(x: u32, y: u32, z: u32) -> Vec3
+    ensures { λ r. ⌜ r ≡ vectorOf x y z ⌝ }
+{
+    Vec3 {
+        x: of_bits(x),
+        y: of_bits(y),
+        z: of_bits(z),
     }
 }

@@ -2,6 +2,7 @@
 use float::of_bits;
 use replay::Words;
 use replay::named;
+use replay::vec;
 use vector::Vec3;
 
 // The result words of the case that a line is; none where it is no case.
@@ -100,14 +101,6 @@ fn of_six(line: &[u8], a: Vec3, b: Vec3) -> Words {
         return vector_words(a.times(b));
     }
     Words::none()
-}
-
-fn vec(x: u32, y: u32, z: u32) -> Vec3 {
-    Vec3 {
-        x: of_bits(x),
-        y: of_bits(y),
-        z: of_bits(z),
-    }
 }
 
 fn float_word(x: f32) -> Words {

@@ -2,6 +2,7 @@
 use float::of_bits;
 use replay::Words;
 use replay::named;
+use replay::vec;
 use stored::Stored;
 use vector::Vec3;
 
@@ -78,13 +79,4 @@ fn of_light(s: Stored, line: &[u8], ro: Vec3, rd: Vec3, tmin: f32, tmax: f32, k:
         return asked::shadow_any(s, ro, rd, tmin, tmax, k);
     }
     Words::none()
-}
-
-// The vector of three words.
-fn vec(x: u32, y: u32, z: u32) -> Vec3 {
-    Vec3 {
-        x: of_bits(x),
-        y: of_bits(y),
-        z: of_bits(z),
-    }
 }

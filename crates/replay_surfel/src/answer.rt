@@ -3,8 +3,8 @@ use asked_grid::Asked;
 use float::of_bits;
 use replay::Words;
 use replay::named;
+use replay::vec;
 use stored_grid::Stored;
-use stored_grid::vec;
 
 // What the question that a line is leaves stored, and its result words; none where it is no
 // question.

@@ -4,7 +4,6 @@
 mod put;
 mod show;
 
-use float::of_bits;
 use replay::named;
 pub use show::items;
 pub use show::light;
@@ -59,15 +58,6 @@ pub fn stores(line: &[u8]) -> bool {
         | named(line, b"fill")
         | named(line, b"put_starts")
         | named(line, b"put_items")
-}
-
-// The vector of three words.
-pub fn vec(x: u32, y: u32, z: u32) -> Vec3 {
-    Vec3 {
-        x: of_bits(x),
-        y: of_bits(y),
-        z: of_bits(z),
-    }
 }
 
 impl Stored {

@@ -2,9 +2,10 @@
 use crate::Bounds;
 use crate::Lent;
 use crate::Stored;
-use crate::vec;
 use float::of_bits;
 use replay::Words;
+use replay::put_numbers;
+use replay::vec;
 use vector::Vec3;
 
 impl Stored {
@@ -65,7 +66,7 @@ impl Stored {
     // With starts, from the place on that the first word names.
     pub fn with_starts(self, given: Words) -> Stored {
         let mut starts = self.starts;
-        put_words(&mut starts, given);
+        put_numbers(&mut starts, given);
         let mut next = self;
         next.starts = starts;
         next
@@ -74,7 +75,7 @@ impl Stored {
     // With items, the same.
     pub fn with_items(self, given: Words) -> Stored {
         let mut items = self.items;
-        put_words(&mut items, given);
+        put_numbers(&mut items, given);
         let mut next = self;
         next.items = items;
         next
@@ -117,27 +118,5 @@ pub fn lengths(w: [u32; 16]) -> Lent {
         probe_normals: w[7] as usize,
         seen: w[8] as usize,
         light: w[9] as usize,
-    }
-}
-
-// Puts the words after the first one after the other, from the place on that the first names.
-fn put_words(table: &mut [u32], given: Words) {
-    let w = given.words;
-    let from = w[0] as usize;
-    let mut i = 0;
-    while i < 15 {
-        put(table, from, i, w[i + 1], i + 1 < given.count);
-        i += 1;
-    }
-}
-
-// Puts the word at the place i after `from`, if it is given and the table has the place.
-fn put(table: &mut [u32], from: usize, i: usize, word: u32, is_given: bool) {
-    if is_given {
-        if i < table.len() {
-            if from < table.len() - i {
-                table[from + i] = word;
-            }
-        }
     }
 }
