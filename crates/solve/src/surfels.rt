@@ -21,7 +21,8 @@ pub fn update_rad(n: usize, albedo: &[f32], direct: &[f32], irr: &[f32], rad: &m
     let mut change = 0.0;
     let mut i = 0;
     while i < n {
-        let new = rad_of(direct, albedo, i, vec_at(irr, i));
+        let arriving = vec_at(irr, i);
+        let new = rad_of(direct, albedo, i, arriving);
         change = float::max(change, step(vec_at(rad, i), new));
         vector::put(rad, i, new);
         i += 1;
