@@ -14,7 +14,7 @@ use Rattle.vector.specs.Vector.{plus, zeroVec, scaled}
 use Rattle.vector.proofs.Replaced.{length-written, at-written, written-same}
 use Rattle.vector.proofs.Sums.{fold-same}
 use Rattle.accept.specs.Tables.{numberAt}
-use Rattle.transfer.specs.Room.{Rows, Room, Light, lightOf}
+use Rattle.transfer.specs.Room.{Room, Light, lightOf}
 use Rattle.solve.specs.Bounce.{clusterLight, linkLight, rowLight, radOf, newIrr, newRad, bounce, step, greatestStep, change}
 use Rattle.transfer.specs.Needs.{RowsHeld, Accepted}
 use Rattle.transfer.proofs.Acceptance.{rows-held-also}

@@ -103,6 +103,11 @@ pub run-onward : (r : Room) (m : ℕ) (l : Light) → run r m l ≡ onward r m (
 unfolding run
 run-onward r m l = refl
 
+-- what holds of two runs holds of either
+pub either : (P : Run → Type 0) (b : Bool) (q t : Run) → P q → P t → P (cond b q t)
+either P true q t x y = x
+either P false q t x y = y
+
 -- a choice between a run and itself is the run
 pub same-by : (b : Bool) (q : Run) → cond b q q ≡ q
 same-by true q = refl

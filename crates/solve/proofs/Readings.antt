@@ -1,5 +1,5 @@
 -- What the definitions of the solve say, read back: how many bounces a run makes, what light they leave, when it stops, and that the two decimals are the nearest floats. Assumes nothing.
-use mathlib.Core.Bool.{Bool, true, false, cond}
+use mathlib.Core.Bool.{Bool, true, false}
 use mathlib.Core.List.{[], _∷_}
 use mathlib.Core.Logic.{_⊎_, inl, inr}
 use mathlib.Core.Path.{_≡_, refl}
@@ -15,7 +15,7 @@ use Rattle.accept.proofs.Decimals.{nearestTo}
 use Rattle.transfer.specs.Room.{Room, Light}
 use Rattle.solve.specs.Bounce.{leastArea}
 use Rattle.solve.specs.Runs.{Run, noBounce, next, changeLimit, stopped, more, run, bounced}
-use Rattle.solve.proofs.Onward.{same-by}
+use Rattle.solve.proofs.Onward.{either, same-by}
 
 -- ---- bounces
 
@@ -54,19 +54,15 @@ run-ended r m l h = rw (ne-eqb (r .clusters .nc) 0 h) (rw zero-add at (more-ende
 abbrev BouncedFrom : Room → Light → Run → Type 0
 BouncedFrom r l q = q .light ≡ bounced r (q .bounces) l
 
-either-bounced : (r : Room) (l : Light) (b : Bool) (q t : Run) → BouncedFrom r l q → BouncedFrom r l t → BouncedFrom r l (cond b q t)
-either-bounced r l true q t x y = x
-either-bounced r l false q t x y = y
-
 more-bounced : (r : Room) (l : Light) (m : ℕ) (q : Run) → BouncedFrom r l q → BouncedFrom r l (more r m q)
 unfolding more next bounced
 more-bounced r l zero q h = h
 more-bounced r l (suc m) q h =
-    either-bounced r l (stopped (q .bounces) (q .last)) q (more r m (next r q)) h (more-bounced r l m (next r q) (rw (add-one (q .bounces), h)))
+    either (BouncedFrom r l) (stopped (q .bounces) (q .last)) q (more r m (next r q)) h (more-bounced r l m (next r q) (rw (add-one (q .bounces), h)))
 
 pub run-bounced : (r : Room) (m : ℕ) (l : Light) → run r m l .light ≡ bounced r (run r m l .bounces) l
 unfolding run bounced
-run-bounced r m l = either-bounced r l (eqb (r .clusters .nc) 0) (noBounce l) (more r m (noBounce l)) refl (more-bounced r l m (noBounce l) refl)
+run-bounced r m l = either (BouncedFrom r l) (eqb (r .clusters .nc) 0) (noBounce l) (more r m (noBounce l)) refl (more-bounced r l m (noBounce l) refl)
 
 -- ---- when it stops
 

@@ -24,6 +24,7 @@ use Rattle.solve.specs.Runs.{Run, noBounce, next, stopped, more, run, bo
 use Rattle.transfer.specs.Needs.{ClustersHeld, RowsHeld, Accepted}
 use Rattle.transfer.proofs.Acceptance.{accepted-also}
 use Rattle.solve.specs.Calls.{cutClusters, cutRows, cutRoom, cutLight}
+use Rattle.solve.proofs.Onward.{either}
 
 -- a run whose light is cut to n surfels
 abbrev pub cutRun : ℕ → Run → Run
@@ -134,21 +135,16 @@ run-cut r m l s a = rw (more-cut r s m (noBounce l) a) (cond-by (cutRun (r .n)) 
 
 -- what each bounce keeps of the light, a run keeps
 module _ (r : Room) (P : Light → Type 0) (keeps : (l : Light) → P l → P (bounce r l)) where
-  -- of two runs, whichever is chosen
-  either : (b : Bool) (q t : Run) → P (q .light) → P (t .light) → P (cond b q t .light)
-  either true q t x y = x
-  either false q t x y = y
-
   -- from any run so far
   pub more-keeps : (m : ℕ) (q : Run) → P (q .light) → P (more r m q .light)
   unfolding more next
   more-keeps zero q h = h
-  more-keeps (suc m) q h = either (stopped (q .bounces) (q .last)) q (more r m (next r q)) h (more-keeps m (next r q) (keeps (q .light) h))
+  more-keeps (suc m) q h = either (λ (x : Run). P (x .light)) (stopped (q .bounces) (q .last)) q (more r m (next r q)) h (more-keeps m (next r q) (keeps (q .light) h))
 
   -- and from the light
   pub run-keeps : (m : ℕ) (l : Light) → P l → P (run r m l .light)
   unfolding run
-  run-keeps m l h = either (eqb (r .clusters .nc) 0) (noBounce l) (more r m (noBounce l)) h (more-keeps m (noBounce l) h)
+  run-keeps m l h = either (λ (x : Run). P (x .light)) (eqb (r .clusters .nc) 0) (noBounce l) (more r m (noBounce l)) h (more-keeps m (noBounce l) h)
 
 -- what irr and rad hold past the surfels
 pub run-past : (r : Room) (m : ℕ) (l : Light)

@@ -15,7 +15,6 @@ use accept::numbers_below;
 use accept::ranges_contiguous;
 use accept::unless;
 ghost use mathlib.Core.Path.{_≡_};
-ghost use lib.ListN.{length};
 ghost use Rattle.transfer.specs.Room.{clustersIn, rowsIn, roomIn};
 ghost use Rattle.transfer.specs.Checks.{countsWithin, surfelsHold, clustersHold, rowsHold, floatsFit, numbersFit, refusal};
 
