@@ -26,6 +26,12 @@ every-at f (suc n) e i h =
     let both = and-eq-true-iff (every f n) (f n) .0 e in
     ⊎-elim (λ q. rw q (both .1)) (λ k. every-at f n (both .0) i k) (eq-or-lt-of-le {n = i} {m = n} (omega arith))
 
+-- where each held, all did
+pub every-all : (f : ℕ → Bool) (n : ℕ) → ((i : ℕ) → i < n → f i ≡ true) → every f n ≡ true
+unfolding every
+every-all f zero h = refl
+every-all f (suc n) h = rw (every-all f n (λ i k. h i (omega arith)), h n (omega arith))
+
 -- only the first n tests count
 pub every-same : (f g : ℕ → Bool) (n : ℕ) → ((i : ℕ) → i < n → f i ≡ g i) → every f n ≡ every g n
 unfolding every

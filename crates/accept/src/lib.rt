@@ -15,6 +15,7 @@ pub use ranges::within;
 pub use refusal::unless;
 pub use tables::at_most;
 pub use tables::holds;
+pub use tables::lesser;
 pub use tables::links_ascend;
 pub use tables::numbers_below;
 pub use tables::ranges_contiguous;

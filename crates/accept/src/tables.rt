@@ -1,7 +1,7 @@
 // Slices that are long enough, and numbers that fit together.
 ghost use mathlib.Core.Bool.{true};
 ghost use mathlib.Core.Path.{_≡_};
-ghost use Prim.Native.Nat.{_≤_, _<_};
+ghost use Prim.Native.Nat.{_≤_, _<_, min};
 ghost use lib.ListN.{length};
 ghost use Rattle.accept.specs.Tables.{atMost, holds, allBelow, monotone, ascends, allAscend, contiguous};
 ghost use Rattle.accept.specs.Tables.{numberAt, numbersBelow, startsMonotone, linksAscend, rangesContiguous};
@@ -149,4 +149,11 @@ pub fn wide(x: u32) -> usize
     ensures { λ r. ⌜ r ≡ x ⌝ }
 {
     x as usize
+}
+
+// The lesser of two counts.
+pub fn lesser(a: usize, b: usize) -> usize
+    ensures { λ r. ⌜ r ≡ min a b ⌝ }
+{
+    if a <= b { a } else { b }
 }

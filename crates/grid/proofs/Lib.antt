@@ -2,7 +2,6 @@
 pub mod Numbered
 pub mod Slices
 pub mod Nearby
-pub mod Copied
 pub mod Answered
 pub mod Placed
 pub mod Built

@@ -1,10 +1,10 @@
 -- The C interface: document 01, 'Refused calls'. A vector is three floats, and the numbers of an answer are written through references; what those hold, as a function is called
 -- and as it returns, is read here as the struct that the answer has. Definitions only.
 use Prim.Native.Nat.{ℕ}
-use denote.Ref.{RefT, now}
-use denote.Triple.Both.{Both}
+use denote.Ref.{now}
 use lib.Ieee.{Float}
 use Rattle.vector.specs.declared.Vec3.{Vec3}
+use Rattle.vector.specs.Flat.{Moments, Out}
 use Rattle.vector.specs.Vector.{vec}
 use Rattle.grid.specs.declared.Dims.{Dims}
 use Rattle.scene.specs.declared.Closure.{Closure}
@@ -12,14 +12,6 @@ use Rattle.field.specs.declared.DistHit.{DistHit}
 use Rattle.scene.specs.declared.Hit.{Hit}
 use Rattle.scene.specs.declared.Shadow.{Shadow}
 use Rattle.solve.specs.declared.SolveStats.{SolveStats}
-
--- a value at a function's two moments, entry and exit
-abbrev pub Moments : Type 0 → Type 0
-Moments X = Both X X
-
--- a number that is written through a reference
-abbrev pub Out : Type 0 → Type 0
-Out X = Moments (RefT X)
 
 -- what the outs of a ray hold: hit is 1 or 0, at is where the scene was met, evals how many distances were evaluated
 pub record TraceOut : Type 0 where

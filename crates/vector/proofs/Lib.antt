@@ -3,4 +3,5 @@ pub mod Edges
 pub mod Sums
 pub mod Replaced
 pub mod Puts
+pub mod Stored
 pub mod Readings

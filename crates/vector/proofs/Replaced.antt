@@ -119,6 +119,13 @@ by-vec l i h e = front (3 * i) (3 * i + 1) (3 * i + 2) (omega arith) (omega arit
     front : (a b c : ℕ) → b ≡ suc a → c ≡ suc (suc a) → c < length l → take 3 (drop a l) ≡ getD l a nan ∷ getD l b nan ∷ getD l c nan ∷ []
     front a b c p q k = rw (p, q, drop-cons l a nan (omega arith), drop-cons l (suc a) nan (omega arith), drop-cons l (suc (suc a)) nan (omega arith))
 
+-- a vector of what is left from vector a on
+pub at-drop : (a : ℕ) (l : List Float) (i : ℕ) → vecAt (drop (3 * a) l) i ≡ vecAt l (a + i)
+at-drop a l i = three (past (3 * i) (3 * (a + i)) (omega arith)) (past (3 * i + 1) (3 * (a + i) + 1) (omega arith)) (past (3 * i + 2) (3 * (a + i) + 2) (omega arith))
+  where
+    past : (j k : ℕ) → 3 * a + j ≡ k → getD (drop (3 * a) l) j nan ≡ getD l k nan
+    past j k e = getD-drop (3 * a) l j nan ∙ ap (λ (m : ℕ). getD l m nan) e
+
 -- a vector of a list cut past it
 pub at-cut : (n : ℕ) (l : List Float) (i : ℕ) → i < n → vecAt (take (3 * n) l) i ≡ vecAt l i
 at-cut n l i h =

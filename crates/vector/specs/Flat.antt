@@ -1,7 +1,8 @@
 -- Flat lists, vectors at three places each (document 01, 'What changes shape': lent slices), and what a loop that writes from the front leaves. Definitions only.
 use mathlib.Core.List.{List, [], _∷_, _++_}
+use mathlib.Core.Path.{_≡_}
 use Prim.Native.Nat.{ℕ, zero, suc, _+_, _*_}
-use denote.Ref.{RefT}
+use denote.Ref.{RefT, now}
 use denote.Triple.Both.{Both}
 use lib.ListN.{drop}
 use lib.Seq.{sets}
@@ -10,9 +11,20 @@ use Rattle.float.specs.Column.{floatAt}
 use Rattle.vector.specs.declared.Vec3.{Vec3}
 use Rattle.vector.specs.Vector.{vec}
 
--- a lent slice at a function's two moments
+-- a value at a function's two moments, entry and exit
+abbrev pub Moments : Type 0 → Type 0
+Moments X = Both X X
+
+-- a number that is written through a reference, and a lent slice
+abbrev pub Out : Type 0 → Type 0
+Out X = Moments (RefT X)
+
 abbrev pub Slice : Type 0 → Type 0
-Slice X = Both (RefT (List X)) (RefT (List X))
+Slice X = Out (List X)
+
+-- a slice is as it was from place k on
+abbrev pub KeptFrom : {X : Type 0} → ℕ → Slice X → Type 0
+KeptFrom k l = drop k (now (l .exit)) ≡ drop k (now (l .entry))
 
 -- the vector number i of a flat list; a float outside is NaN
 abbrev pub vecAt : List Float → ℕ → Vec3

@@ -5,7 +5,7 @@ use native.Mathlib.Omega.{arith}
 use lib.ListN.{length}
 use Rattle.vector.specs.Flat.{rows}
 use Rattle.grid.specs.Rows.{layerListed}
-use Rattle.grid.proofs.Copied.{rows-counted}
+use Rattle.vector.proofs.Stored.{rows-counted}
 use borrow.Author.Needs.{needs}
 use Rattle.grid.proofs.listing.count_block.Statement.{statement}
 use Rattle.grid.proofs.listing.count_block.Tie as tie

@@ -5,7 +5,8 @@ use native.Mathlib.Omega.{arith}
 use lib.ListN.{length}
 use Rattle.vector.specs.Flat.{rows}
 use Rattle.grid.specs.Rows.{rowListed}
-use Rattle.grid.proofs.Copied.{row-length, rows-counted}
+use Rattle.vector.proofs.Stored.{rows-counted}
+use Rattle.grid.proofs.Slices.{row-length}
 use borrow.Author.Needs.{needs}
 use Rattle.grid.proofs.listing.count_layer.Statement.{statement}
 use Rattle.grid.proofs.listing.count_layer.Tie as tie

@@ -6,7 +6,7 @@ use lib.ListN.{length}
 use lib.Seq.{sets}
 use Rattle.vector.specs.Flat.{rows}
 use Rattle.grid.specs.Rows.{layerListed}
-use Rattle.grid.proofs.Copied.{rows-stored, rows-length}
+use Rattle.vector.proofs.Stored.{rows-stored, rows-length}
 use borrow.Author.Needs.{needs}
 use Rattle.grid.proofs.listing.list_block.Statement.{statement}
 use Rattle.grid.proofs.listing.list_block.Tie as tie

@@ -7,7 +7,8 @@ use lib.ListN.{length}
 use lib.Seq.{sets}
 use Rattle.vector.specs.Flat.{rows}
 use Rattle.grid.specs.Rows.{rowListed}
-use Rattle.grid.proofs.Copied.{row-length, rows-length, rows-stored}
+use Rattle.vector.proofs.Stored.{rows-length, rows-stored}
+use Rattle.grid.proofs.Slices.{row-length}
 use borrow.Author.Needs.{needs}
 use Rattle.grid.proofs.listing.list_layer.Statement.{statement}
 use Rattle.grid.proofs.listing.list_layer.Tie as tie

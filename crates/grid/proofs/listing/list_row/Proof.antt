@@ -4,7 +4,7 @@ use Prim.Native.Nat.{_+_, _-_, _≤_}
 use native.Mathlib.Omega.{arith}
 use lib.ListN.{length, length-set}
 use lib.Seq.{slice, sets}
-use Rattle.grid.proofs.Copied.{slice-none, slice-stored}
+use Rattle.vector.proofs.Stored.{slice-none, slice-stored}
 use borrow.Author.Needs.{needs}
 use Rattle.grid.proofs.listing.list_row.Statement.{statement}
 use Rattle.grid.proofs.listing.list_row.Tie as tie
@@ -25,7 +25,7 @@ loop-again : tie.Need-loop-again Inv-loop μ-loop
 loop-again c =
     let lp = c .before .before in
     let a = lp .before .args in
-    (search needs, slice-stored (a .from) (lp .loop .j) (a .at) (a .list .now) (a .items .now) (omega (arith, c .before, lp, lp .before .pre)) (lp .loop .inv .1) refl refl, simp length-set (lp .loop .inv .2))
+    (search needs, slice-stored (a .from) (lp .loop .j) (a .at) (a .list .now) (a .items .now) 0 (omega (arith, c .before, lp, lp .before .pre)) (lp .loop .inv .1) refl refl, simp length-set (lp .loop .inv .2))
 
 same-length : tie.Need-same-length Inv-loop μ-loop
 same-length c = c .before .loop .inv .2
