@@ -1,0 +1,3 @@
+-- The definitions that the contracts of `interflect_rows` cite.
+pub mod Outs
+pub mod Rows
