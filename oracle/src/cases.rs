@@ -9,12 +9,32 @@ use crate::random::Random;
 use interflect::Vec3;
 use std::array::from_fn;
 use std::collections::HashSet;
+use std::ops::Range;
 
 /// One operation with its operand words.
 #[derive(Clone, PartialEq, Eq, Hash)]
 pub struct Case {
     pub name: &'static str,
     pub operands: Vec<u32>,
+}
+
+/// The places of a table that holds other words than these, from place 0 on, in ranges of at most 15:
+/// as many as a line puts. Two places between that hold the same are no reason for another line.
+pub fn others(held: &[u32], words: &[u32]) -> Vec<Range<usize>> {
+    assert!(words.len() <= held.len());
+    let other = |k: usize| words[k] != held[k];
+    let mut list = Vec::new();
+    let mut from = 0;
+    while let Some(first) = (from..words.len()).find(|&k| other(k)) {
+        let mut end = first + 1;
+        let most = words.len().min(first + 15);
+        while let Some(next) = (end..most.min(end + 3)).find(|&k| other(k)) {
+            end = next + 1;
+        }
+        list.push(first..end);
+        from = end;
+    }
+    list
 }
 
 const LEAST: f32 = f32::from_bits(1);

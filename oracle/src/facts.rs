@@ -77,6 +77,133 @@ fn normal_buckets() {
     assert_eq!(buckets, [0, 1, 2, 5]);
 }
 
+/// Zeros of both signs are along x, and not below 0.
+#[test]
+fn normal_buckets_of_zeros() {
+    let zeros = [Vec3::ZERO, Vec3::splat(-0.0), Vec3::new(-0.0, 0.0, -0.0)];
+    assert_eq!(zeros.map(formfactor::open::normal_bucket), [0, 0, 0]);
+    let lone = [Vec3::new(-0.0, -1.0, 0.0), Vec3::new(-0.0, 0.0, 1.0)];
+    assert_eq!(lone.map(formfactor::open::normal_bucket), [3, 4]);
+}
+
+/// Room Q's surfel at another place, with another normal and area.
+fn surfel_at(p: Vec3, n: Vec3, area: f32) -> Surfel {
+    let ([surfel], _) = room_q();
+    Surfel {
+        p,
+        n,
+        area,
+        ..surfel
+    }
+}
+
+/// The clusters of these surfels in a box from 0 to this size.
+fn clusters_in(size: f32, surfels: &[Surfel], res: i32) -> Vec<Cluster> {
+    let mut scene = of_shapes(Vec::new(), Vec::new());
+    scene.bounds = (Vec3::ZERO, Vec3::splat(size));
+    formfactor::build_clusters(&scene, surfels, res)
+}
+
+/// "a cluster whose area is at most 1e-12 is dropped".
+#[test]
+fn an_area_of_1e_12_is_dropped() {
+    let count = |area| clusters_in(1.0, &[surfel_at(Vec3::ONE, Vec3::Y, area)], 1).len();
+    assert_eq!(count(1e-12), 0);
+    assert_eq!(count(1e-12f32.next_up()), 1);
+}
+
+/// "key (voxel x, y, z, normal bucket) ascending, members ascending".
+#[test]
+fn clusters_in_the_order_of_their_keys() {
+    let spots = [
+        (1.5, 0.5, 0.5),
+        (0.5, 1.5, 0.5),
+        (0.5, 0.5, 1.5),
+        (0.5, 0.5, 0.5),
+    ];
+    let mut surfels: Vec<Surfel> = spots
+        .map(|(x, y, z)| surfel_at(Vec3::new(x, y, z), Vec3::Y, 1.0))
+        .to_vec();
+    surfels.push(surfel_at(Vec3::ONE * 0.5, Vec3::new(1.0, 0.0, 0.0), 1.0));
+    surfels.push(surfels[1]);
+    let members: Vec<Vec<u32>> = clusters_in(2.0, &surfels, 2)
+        .into_iter()
+        .map(|c| c.members)
+        .collect();
+    assert_eq!(members, [vec![4], vec![3], vec![2], vec![1, 5], vec![0]]);
+}
+
+/// A voxel is (p - lo) × (resolution / extent): divided by the extent first, or last, it would be 4.
+#[test]
+fn voxels_are_counted_by_the_resolution_over_the_extent() {
+    let (x, size) = (f32::from_bits(0x3FF0B4F8), f32::from_bits(0x40529E59));
+    assert_eq!((x / size * 7.0) as i32, 4);
+    assert_eq!((x * 7.0 / size) as i32, 4);
+    let fourth = surfel_at(Vec3::new(size * 3.1 / 7.0, 0.0, 0.0), Vec3::Y, 1.0);
+    let surfels = [fourth, surfel_at(Vec3::new(x, 0.0, 0.0), Vec3::Y, 1.0)];
+    assert_eq!(clusters_in(size, &surfels, 7).len(), 1);
+}
+
+/// A cluster's normal is multiplied by one over its length: divided by it, z would be 3EF8DCFC.
+#[test]
+fn a_cluster_normal_is_multiplied_by_one_over_its_length() {
+    let [x, y, z] = [0x3F0A69F0, 0x3F2FC49B, 0x3EF8DCFB].map(f32::from_bits);
+    let surfel = surfel_at(Vec3::ONE, Vec3::new(x, y, z), 1.0);
+    let clusters = clusters_in(1.0, &[surfel], 1);
+    assert_eq!(clusters[0].n.z.to_bits(), 0x3EF8DCFD);
+}
+
+/// A cluster's centre can pass 10,000 by rounding: rows over it are then refused with 5.
+#[test]
+fn a_centre_past_10_000() {
+    let areas = [0x3D3C6A7F, 0x3EE978D5].map(f32::from_bits);
+    let surfels = areas.map(|area| surfel_at(Vec3::splat(10_000.0), Vec3::Y, area));
+    let clusters = clusters_in(10_000.0, &surfels, 1);
+    assert_eq!(clusters[0].p.x.to_bits(), 0x461C4001);
+}
+
+/// One surfel at zero that looks up, one cluster above it that looks down, in this scene.
+fn row_in(mut scene: Scene, area: f32) -> (Transfer, u64) {
+    scene.bounds = (Vec3::splat(-2.0), Vec3::splat(2.0));
+    let up = Vec3::new(0.0, 0.0, 1.0);
+    let cluster = Cluster {
+        p: up,
+        n: -up,
+        area,
+        radius: 0.1,
+        members: Vec::new(),
+    };
+    formfactor::build(&scene, &[surfel_at(Vec3::ZERO, up, 1.0)], vec![cluster])
+}
+
+/// A row whose target is 0 keeps its links, at weight 0. Each of the 16 marches ends after a sample.
+#[test]
+fn a_row_under_the_open_sky_keeps_its_links() {
+    let (transfer, evals) = row_in(of_shapes(Vec::new(), Vec::new()), 1.0);
+    assert_eq!((transfer.links, transfer.starts), (1, vec![0, 1]));
+    assert_eq!(transfer.w[0].to_bits(), 0);
+    assert_eq!(transfer.mean_row_sum.to_bits(), 0);
+    let (_, marches) = row_in(of_shapes(Vec::new(), Vec::new()), 0.0);
+    assert_eq!(marches, 16);
+    assert!(evals > 16);
+}
+
+/// "scaled by min(target/sum, 8)": below an eighth of the target the mean is 8 times the sum.
+#[test]
+fn a_row_is_scaled_by_8_at_most() {
+    let walls = [(1.0, 0.0, 0.0), (0.0, 1.0, 0.0), (0.0, 0.0, 1.0)];
+    let normals = walls.map(|(x, y, z)| Vec3::new(x, y, z));
+    let planes: Vec<Object> = normals
+        .iter()
+        .flat_map(|&n| [plane(n, -2.0), plane(-n, -2.0)])
+        .collect();
+    let sum = |area| row_in(of_shapes(planes.clone(), Vec::new()), area).0;
+    assert_eq!(sum(1.0).mean_row_sum, 1.0);
+    let small = sum(0.01);
+    assert!(small.mean_row_sum < 0.1);
+    assert_eq!(small.mean_row_sum, small.w[0]);
+}
+
 #[test]
 fn three_bounces_of_q() {
     let (mut surfels, transfer) = room_q();

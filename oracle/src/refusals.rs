@@ -20,12 +20,12 @@ pub fn number(tables: &Tables, coordinates: &[f32]) -> Option<u32> {
 }
 
 /// 2: "primitives, planes, objects or materials over 256".
-fn too_many(t: &Tables) -> bool {
+pub fn too_many(t: &Tables) -> bool {
     t.prims > 256 || t.planes > 256 || t.objects > 256
 }
 
 /// 4: "a lent slice shorter than its need". For tables whose counts are at most 256.
-fn too_short(t: &Tables) -> bool {
+pub fn too_short(t: &Tables) -> bool {
     t.kinds.len() < t.prims as usize
         || t.lengths.len() < 8 * t.prims as usize
         || t.plane_parts.len() < 4 * t.planes as usize
@@ -33,7 +33,7 @@ fn too_short(t: &Tables) -> bool {
 }
 
 /// 5: "NaN, infinity, or out of range", in any float of a counted primitive that its kind uses.
-fn out_of_range(t: &Tables) -> bool {
+pub fn out_of_range(t: &Tables) -> bool {
     let within = |k: usize| {
         let x = &t.lengths[8 * k..8 * k + 8];
         match t.kinds[k] {
@@ -58,7 +58,7 @@ fn out_of_range(t: &Tables) -> bool {
 
 /// 6: "primitive kind over 6, a primitive range outside its table, a plane as an object's base or
 /// the reverse".
-fn miswired(t: &Tables) -> bool {
+pub fn miswired(t: &Tables) -> bool {
     let kinds = &t.kinds[..t.prims as usize];
     let is_plane = |part: &Part| kinds.get(part.base as usize).map(|&kind| kind == 2);
     let outside = |part: &Part| u64::from(part.first) + u64::from(part.many) > u64::from(t.prims);

@@ -14,14 +14,19 @@ mod sheets;
 mod solve_cases;
 mod solve_refusals;
 mod solves;
+mod stores;
 mod surfel_cases;
 mod tables;
+mod transfer_cases;
+mod transfer_refusals;
+mod transfers;
 
 use cases::Case;
 use rooms::Room;
 use sheets::Sheet;
 use std::path::Path;
 use std::{env, fs, io};
+use stores::Store;
 use tables::Tables;
 
 fn main() -> io::Result<()> {
@@ -43,20 +48,26 @@ fn main() -> io::Result<()> {
     let mut room = Room::new();
     write(&crates.join("replay_solve"), &solve_cases::all(), |case| {
         (!room.store(case)).then(|| solves::answer(&mut room, case))
-    })
+    })?;
+    let mut store = Store::new();
+    write(
+        &crates.join("replay_formfactor"),
+        &transfer_cases::all(),
+        |case| transfers::lines(&mut store, case),
+    )
 }
 
-/// Writes the cases and their answers into a folder, a line each, and prints how many there are. A
-/// case without an answer has no line in stdout.
-fn write(
+/// Writes the cases and their answers into a folder, a line for each case and each answer, and prints
+/// how many cases there are. A case without an answer has no line in stdout, and one may have many.
+fn write<A: IntoIterator<Item = Vec<u32>>>(
     folder: &Path,
     cases: &[Case],
-    mut answer: impl FnMut(&Case) -> Option<Vec<u32>>,
+    mut answer: impl FnMut(&Case) -> A,
 ) -> io::Result<()> {
     let (mut stdin, mut stdout) = (String::new(), String::new());
     for case in cases {
         stdin += &format!("{} {}\n", case.name, hexadecimal(&case.operands));
-        if let Some(words) = answer(case) {
+        for words in answer(case) {
             stdout += &format!("{}\n", hexadecimal(&words));
         }
     }

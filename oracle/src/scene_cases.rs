@@ -3,7 +3,7 @@
 mod directions;
 mod limits;
 mod marches;
-mod rooms;
+pub mod rooms;
 mod shapes;
 
 use crate::answers::word;
@@ -26,26 +26,26 @@ pub fn all() -> Vec<Case> {
 
 /// A primitive: its kind and its eight floats.
 #[derive(Clone, Copy)]
-struct Shape {
-    kind: u32,
-    lengths: [f32; 8],
+pub struct Shape {
+    pub kind: u32,
+    pub lengths: [f32; 8],
 }
 
-fn shape(kind: u32, floats: &[f32]) -> Shape {
+pub fn shape(kind: u32, floats: &[f32]) -> Shape {
     let mut lengths = [0.0; 8];
     lengths[..floats.len()].copy_from_slice(floats);
     Shape { kind, lengths }
 }
 
-fn sphere(c: Vec3, r: f32) -> Shape {
+pub fn sphere(c: Vec3, r: f32) -> Shape {
     shape(0, &[c.x, c.y, c.z, r])
 }
 
-fn round_box(c: Vec3, b: Vec3, r: f32) -> Shape {
+pub fn round_box(c: Vec3, b: Vec3, r: f32) -> Shape {
     shape(1, &[c.x, c.y, c.z, b.x, b.y, b.z, r])
 }
 
-fn plane(n: Vec3, h: f32) -> Shape {
+pub fn plane(n: Vec3, h: f32) -> Shape {
     shape(2, &[n.x, n.y, n.z, h])
 }
 
@@ -65,16 +65,16 @@ fn cone(a: Vec3, b: Vec3, ra: f32, rb: f32) -> Shape {
     shape(6, &[a.x, a.y, a.z, b.x, b.y, b.z, ra, rb])
 }
 
-fn at(x: f32, y: f32, z: f32) -> Vec3 {
+pub fn at(x: f32, y: f32, z: f32) -> Vec3 {
     Vec3::new(x, y, z)
 }
 
 /// A scene in the making.
 #[derive(Clone, Default)]
-struct Room {
-    shapes: Vec<Shape>,
-    planes: Vec<Part>,
-    objects: Vec<Part>,
+pub struct Room {
+    pub shapes: Vec<Shape>,
+    pub planes: Vec<Part>,
+    pub objects: Vec<Part>,
 }
 
 impl Room {
@@ -88,7 +88,7 @@ impl Room {
     }
 
     /// Adds a plane or an object with what is subtracted from it.
-    fn add(&mut self, base: Shape, subtracted: &[Shape], mat: u32) {
+    pub fn add(&mut self, base: Shape, subtracted: &[Shape], mat: u32) {
         let at = self.shapes.len() as u32;
         let part = Part {
             base: at,
@@ -110,6 +110,38 @@ impl Room {
         room.add(base, subtracted, 1);
         room
     }
+
+    /// The lines that store the whole scene.
+    pub fn lines(&self) -> Vec<Case> {
+        let counts = [self.shapes.len(), self.planes.len(), self.objects.len()];
+        let mut list = vec![Case {
+            name: "counts",
+            operands: counts.map(|n| n as u32).to_vec(),
+        }];
+        let shapes = (0..).zip(&self.shapes);
+        list.extend(shapes.map(|(k, shape)| prim_line(k, shape)));
+        let planes = (0..).zip(&self.planes);
+        list.extend(planes.map(|(j, part)| part_line("plane", j, part)));
+        let objects = (0..).zip(&self.objects);
+        list.extend(objects.map(|(j, part)| part_line("object", j, part)));
+        list
+    }
+}
+
+/// The line that stores a primitive.
+fn prim_line(k: u32, shape: &Shape) -> Case {
+    Case {
+        name: "prim",
+        operands: [&[k, shape.kind], &shape.lengths.map(word)[..]].concat(),
+    }
+}
+
+/// The line that stores a plane or an object.
+fn part_line(name: &'static str, j: u32, part: &Part) -> Case {
+    Case {
+        name,
+        operands: vec![j, part.base, part.first, part.many, part.mat],
+    }
 }
 
 /// The lines so far, the tables as they stand after them, and what was last stored at each place.
@@ -129,57 +161,43 @@ impl Script {
     }
 
     /// A line that stores, unless the same is stored at that place already.
-    fn store(&mut self, name: &'static str, place: u32, operands: Vec<u32>) {
-        let last = self.stored.insert((name, place), operands.clone());
-        if last.as_ref() != Some(&operands) {
-            let case = Case { name, operands };
+    fn store(&mut self, case: Case) {
+        let place = match case.name {
+            "counts" => 0,
+            _ => case.operands[0],
+        };
+        let last = self
+            .stored
+            .insert((case.name, place), case.operands.clone());
+        if last.as_ref() != Some(&case.operands) {
             assert!(self.tables.store(&case));
             self.list.push(case);
         }
     }
 
     fn counts(&mut self, prims: u32, planes: u32, objects: u32) {
-        self.store("counts", 0, vec![prims, planes, objects]);
+        self.store(Case {
+            name: "counts",
+            operands: vec![prims, planes, objects],
+        });
     }
 
     fn prim(&mut self, k: u32, shape: Shape) {
-        let lengths = shape.lengths.map(word);
-        self.store("prim", k, [&[k, shape.kind], &lengths[..]].concat());
+        self.store(prim_line(k, &shape));
     }
 
     fn plane(&mut self, j: u32, part: Part) {
-        let Part {
-            base,
-            first,
-            many,
-            mat,
-        } = part;
-        self.store("plane", j, vec![j, base, first, many, mat]);
+        self.store(part_line("plane", j, &part));
     }
 
     fn object(&mut self, j: u32, part: Part) {
-        let Part {
-            base,
-            first,
-            many,
-            mat,
-        } = part;
-        self.store("object", j, vec![j, base, first, many, mat]);
+        self.store(part_line("object", j, &part));
     }
 
     /// Stores a whole scene.
     fn room(&mut self, room: &Room) {
-        let [prims, planes, objects] =
-            [room.shapes.len(), room.planes.len(), room.objects.len()].map(|n| n as u32);
-        self.counts(prims, planes, objects);
-        for (k, &shape) in (0..).zip(&room.shapes) {
-            self.prim(k, shape);
-        }
-        for (j, &part) in (0..).zip(&room.planes) {
-            self.plane(j, part);
-        }
-        for (j, &part) in (0..).zip(&room.objects) {
-            self.object(j, part);
+        for line in room.lines() {
+            self.store(line);
         }
     }
 

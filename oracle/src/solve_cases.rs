@@ -11,7 +11,7 @@ mod rooms;
 mod stops;
 
 use crate::answers::word;
-use crate::cases::Case;
+use crate::cases::{others, Case};
 use crate::random::Random;
 use crate::rooms::{Lent, Room, CLUSTERS, SURFELS};
 use crate::solves::{self, Told};
@@ -161,19 +161,9 @@ impl Script {
 
     /// Puts words into a table from place 0 on: lines for the places that hold other words.
     fn table(&mut self, name: &'static str, words: &[u32]) {
-        let held = self.room.words(name);
-        assert!(words.len() <= held.len());
-        let other = |k: usize| words[k] != held[k];
-        let mut from = 0;
-        while let Some(first) = (from..words.len()).find(|&k| other(k)) {
-            // At most 15 words a line; two places that hold the same are no reason for another.
-            let mut end = first + 1;
-            let most = words.len().min(first + 15);
-            while let Some(next) = (end..most.min(end + 3)).find(|&k| other(k)) {
-                end = next + 1;
-            }
-            self.put(name, [&[first as u32], &words[first..end]].concat());
-            from = end;
+        for places in others(&self.room.words(name), words) {
+            let first = places.start as u32;
+            self.put(name, [&[first], &words[places]].concat());
         }
     }
 

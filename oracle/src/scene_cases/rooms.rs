@@ -26,15 +26,15 @@ pub(super) fn write(script: &mut Script) {
 }
 
 /// A room, and where its objects are: a centre and a size each.
-struct Drawn {
-    room: Room,
+pub struct Drawn {
+    pub room: Room,
     spots: Vec<(Vec3, f32)>,
 }
 
 impl Drawn {
     /// One to six objects and none to three planes, with none to two shapes subtracted from each.
     /// The kinds of the objects follow one another from room to room.
-    fn new(seed: u32, random: &mut Random) -> Drawn {
+    pub fn new(seed: u32, random: &mut Random) -> Drawn {
         let mut drawn = Drawn {
             room: Room::default(),
             spots: Vec::new(),
@@ -76,7 +76,7 @@ impl Drawn {
     }
 
     /// A point of the room: every second one is close to an object.
-    fn point(&self, random: &mut Random) -> Vec3 {
+    pub fn point(&self, random: &mut Random) -> Vec3 {
         let (c, size) = self.spots[random.below(self.spots.len() as u32) as usize];
         match random.below(2) {
             0 => point(random, 4.0),
@@ -86,13 +86,13 @@ impl Drawn {
 }
 
 /// A point whose coordinates lie within ±size.
-pub(super) fn point(random: &mut Random, size: f32) -> Vec3 {
+pub fn point(random: &mut Random, size: f32) -> Vec3 {
     let mut coordinate = || random.between(-size, size);
     at(coordinate(), coordinate(), coordinate())
 }
 
 /// A direction of length 1.
-pub(super) fn direction(random: &mut Random) -> Vec3 {
+pub fn direction(random: &mut Random) -> Vec3 {
     let v = point(random, 1.0);
     if v.length() > 0.1 {
         v.normalize()
