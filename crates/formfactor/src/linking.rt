@@ -6,7 +6,7 @@ use links::Pair;
 use links::Receiver;
 use links::calibrate;
 use links::pair_of;
-use links::target;
+use links::target_of;
 use scene::opening::hemisphere_closure;
 use vector::Vec3;
 ghost use mathlib.Core.Path.{_≡_};
@@ -75,7 +75,7 @@ pub fn make_row(
         a.n,
         diag * 2.0,
     );
-    let sum = calibrate(weight, raw.links, target(above.sky), raw.sum);
+    let sum = calibrate(weight, raw.links, target_of(above.sky), raw.sum);
     RowMade {
         links: raw.links,
         sum: float::min(sum, 1.0),

@@ -7,7 +7,7 @@ mod scaling;
 
 pub use pairs::pair_of;
 pub use scaling::calibrate;
-pub use scaling::target;
+pub use scaling::target_of;
 use vector::Vec3;
 
 // A surfel as a row sees it: the point and the normal.

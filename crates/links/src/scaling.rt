@@ -6,7 +6,7 @@ ghost use lib.Seq.{sets};
 ghost use Rattle.links.specs.Scaling.{targetOf, scaledBy, calibrated, calibratedSum};
 
 // What a row's sum should be, where this part of the hemisphere is open.
-pub fn target(sky: f32) -> f32
+pub fn target_of(sky: f32) -> f32
     ensures { λ r. ⌜ r ≡ targetOf sky ⌝ }
 {
     float::clamp(1.0 - sky, 0.0, 1.0)

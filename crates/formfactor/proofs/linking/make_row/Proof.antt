@@ -25,7 +25,7 @@ returns c =
     let r = c .before .before .before .before .before .before .before .before .before .before .before .before .before .raw-links in
     let h = c .before .before .before .before .before .before .before .before .hemisphere-closure in
     let k = c .before .before .before .before .before .calibrate in
-    let g = c .before .before .before .before .before .before .target .ensures in
+    let g = c .before .before .before .before .before .before .target-of .ensures in
     let few : h .result .evals ≤ 2112 = rw (h .ensures) (closure-evals _ _ _ _) in
     let t = row-told s (a .diag) (a .a) (clusterAt e) (a .nc) (a .weight .now) (st .pre .1 .weights) (r .ensures .0 .told) (r .ensures .0 .weights) (h .ensures) (rw g at (k .ensures .0)) (rw g at (k .ensures .1)) in
     (record { told = rw (c .before .before .min .ensures, c .before .wide .ensures) (t .0); clusters = r .ensures .0 .clusters; weights = t .1 }, (r .ensures .1 .0, omega (arith, few, c .before .wide .ensures, r .ensures .1 .1)))
