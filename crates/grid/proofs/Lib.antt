@@ -1,5 +1,6 @@
 -- The laws of a grid, for the proofs here and for callers.
 pub mod Numbered
+pub mod Around
 pub mod Slices
 pub mod Nearby
 pub mod Answered

@@ -23,7 +23,8 @@ use Rattle.grid.specs.Rows.{blockNear, blockListed, rowCell, RowsHeld, S
 use Rattle.grid.specs.Cells.{dimsOf, cells, cellOf, cellNumber}
 use Rattle.grid.specs.Needs.{Within}
 use Rattle.grid.specs.Checks.{listFits, tests, refusal}
-use Rattle.grid.proofs.Numbered.{dims-bounded, cell-within, row-major}
+use Rattle.grid.proofs.Numbered.{dims-bounded}
+use Rattle.grid.proofs.Around.{number, number-along, near-end, inside, first-row, row-end}
 use Rattle.grid.proofs.Slices.{rows-join}
 
 -- a call that is not refused passed the tests
@@ -31,47 +32,12 @@ pub accepted : (g : Grid) (few ranged lent floats : Bool) → refusal g few rang
 unfolding refusal
 accepted g few ranged lent floats h = none-failed (tests g few ranged lent floats) tt h
 
--- the number of the cell x y z
-abbrev number : Dims → ℕ → ℕ → ℕ → ℕ
-number d x y z = cellNumber d (record { x = x; y = y; z = z })
-
--- i cells further along x
-number-along : (d : Dims) (x y z i : ℕ) → number d (x + i) y z ≡ number d x y z + i
-unfolding cellNumber
-number-along d x y z i = omega arith
-
--- j rows and k layers further
-number-step : (d : Dims) (x y z j k : ℕ) → number d x (y + j) (z + k) ≡ number d x y z + d .x * d .y * k + d .x * j
-unfolding cellNumber
-number-step d x y z j k =
-    let e : (y + j) + d .y * (z + k) ≡ (y + d .y * z) + (j + d .y * k) = omega (arith, mul-add (d .y) z k) in
-    ap (λ (t : ℕ). x + d .x * t) e
-    ∙ omega (arith, mul-add (d .x) (y + d .y * z) (j + d .y * k), mul-add (d .x) j (d .y * k), mul-assoc (d .x) (d .y) k)
-
--- a row that ends within its axis ends within the grid
-number-end : (d : Dims) (x y z w : ℕ) → x + w ≤ d .x → y < d .y → z < d .z → number d x y z + w ≤ cells d
-unfolding cellNumber
-number-end d x y z w h k l =
-    let r = y + d .y * z in
-    let m = row-major y (d .y) z (d .z) k l in
-    omega (arith, mul-suc (d .x) r, mul-le-mul-left {m = suc r} {n = d .y * d .z} (d .x) m, mul-assoc (d .x) (d .y) (d .z))
-
--- a cell within reach of one of the axis is one of the axis
-near-in : (c reach dim i : ℕ) → c < dim → i < countNear c reach dim → firstNear c reach + i < dim
-near-in c reach dim i h k = omega arith
-
-near-end : (c reach dim : ℕ) → c < dim → firstNear c reach + countNear c reach dim ≤ dim
-near-end c reach dim h = omega arith
-
 module _ (g : Grid) (p : Vec3) (reach : ℕ) (h : listFits g ≡ true) where
   abbrev d : Dims
   d = dimsOf (g .lo) (g .hi) (g .side)
 
   abbrev c : Cell
   c = cellOf p (g .lo) (1f /f g .side) d
-
-  inside : Within d c
-  inside = cell-within p (g .lo) (1f /f g .side) d (dims-bounded (g .lo) (g .hi) (g .side))
 
   starts-fit : (cellsOf g < length (g .starts)) × Monotone (numberAt (g .starts)) (cellsOf g) (g .n)
   unfolding listFits
@@ -86,21 +52,15 @@ module _ (g : Grid) (p : Vec3) (reach : ℕ) (h : listFits g ≡ true) where
       numbers-below-at (g .items) (g .n) (g .n)
       (and-eq-true-iff (startsMonotone (g .starts) (cellsOf g) (g .n)) (numbersBelow (g .items) (g .n) (g .n)) .0 h .1)
 
-  -- the first cell of row j of layer k, and where the row ends
+  -- the first cell of row j of layer k, how many cells the row has, and where it ends
   abbrev first : ℕ → ℕ → ℕ
   first j k = number d (firstNear (c .x) reach) (firstNear (c .y) reach + j) (firstNear (c .z) reach + k)
 
   abbrev wide : ℕ
   wide = countNear (c .x) reach (d .x)
 
-  first-row : (j k : ℕ) → rowCell (blockNear (g .lo) (g .hi) (g .side) p reach) j k ≡ first j k
-  unfolding blockNear
-  first-row j k = sym (number-step d (firstNear (c .x) reach) (firstNear (c .y) reach) (firstNear (c .z) reach) j k)
-
-  row-end : (j k : ℕ) → j < countNear (c .y) reach (d .y) → k < countNear (c .z) reach (d .z) → first j k + wide ≤ cellsOf g
-  row-end j k a b =
-      number-end d (firstNear (c .x) reach) (firstNear (c .y) reach + j) (firstNear (c .z) reach + k) wide
-      (near-end (c .x) reach (d .x) (inside .x-in)) (near-in (c .y) reach (d .y) j (inside .y-in) a) (near-in (c .z) reach (d .z) k (inside .z-in) b)
+  abbrev row-in : (j k : ℕ) → j < countNear (c .y) reach (d .y) → k < countNear (c .z) reach (d .z) → first j k + wide ≤ cellsOf g
+  row-in = row-end (g .lo) (g .hi) (g .side) p reach
 
   rising : (a m : ℕ) → a + m ≤ cellsOf g → (i : ℕ) → i < m → numberAt (g .starts) (a + i) ≤ numberAt (g .starts) (a + i + 1)
   rising a m e i k = starts-fit .1 .rising (a + i) (omega arith)
@@ -116,7 +76,7 @@ module _ (g : Grid) (p : Vec3) (reach : ℕ) (h : listFits g ≡ true) where
       → rows (λ i. listed (g .starts) (g .items) (number d (firstNear (c .x) reach + i) (firstNear (c .y) reach + j) (firstNear (c .z) reach + k))) wide
       ≡ slice (numberAt (g .starts) (first j k)) (numberAt (g .starts) (first j k + wide)) (g .items)
   row-joined j k a b =
-      let e = row-end j k a b in
+      let e = row-in j k a b in
       rows-same _ _ wide (λ i _. ap (listed (g .starts) (g .items)) (number-along d (firstNear (c .x) reach) (firstNear (c .y) reach + j) (firstNear (c .z) reach + k) i))
       ∙ rows-join (numberAt (g .starts)) (g .items) (first j k) wide (rising (first j k) wide e)
       (omega (arith, starts-fit .1 .inside (first j k + wide) e, items-fit .0))
@@ -127,16 +87,16 @@ module _ (g : Grid) (p : Vec3) (reach : ℕ) (h : listFits g ≡ true) where
   visited-rows =
       rows-same _ _ (countNear (c .z) reach (d .z))
       (λ k b. rows-same _ _ (countNear (c .y) reach (d .y))
-      (λ j a. row-joined j k a b ∙ ap (λ (t : ℕ). slice (numberAt (g .starts) t) (numberAt (g .starts) (t + wide)) (g .items)) (sym (first-row j k))))
+      (λ j a. row-joined j k a b ∙ ap (λ (t : ℕ). slice (numberAt (g .starts) t) (numberAt (g .starts) (t + wide)) (g .items)) (sym (first-row (g .lo) (g .hi) (g .side) p reach j k))))
 
   -- which lie in the tables
   pub rows-held : RowsHeld (g .starts) (g .items) (g .n) (blockNear (g .lo) (g .hi) (g .side) p reach)
   unfolding blockNear
   rows-held =
       record {
-        started = λ j k a b. rw (first-row j k) (omega (arith, row-end j k a b, starts-fit .0));
-        rises = λ j k a b. rw (first-row j k) (run (first j k) wide (row-end j k a b));
-        ends = λ j k a b. rw (first-row j k) (starts-fit .1 .inside (first j k + wide) (row-end j k a b));
+        started = λ j k a b. rw (first-row (g .lo) (g .hi) (g .side) p reach j k) (omega (arith, row-in j k a b, starts-fit .0));
+        rises = λ j k a b. rw (first-row (g .lo) (g .hi) (g .side) p reach j k) (run (first j k) wide (row-in j k a b));
+        ends = λ j k a b. rw (first-row (g .lo) (g .hi) (g .side) p reach j k) (starts-fit .1 .inside (first j k + wide) (row-in j k a b));
         held = items-fit .0;
       }
 
@@ -147,6 +107,6 @@ module _ (g : Grid) (p : Vec3) (reach : ℕ) (h : listFits g ≡ true) where
       let b = dims-bounded (g .lo) (g .hi) (g .side) in
       record {
         few = e;
-        rows-few = omega (arith, near-end (c .y) reach (d .y) (inside .y-in), b .y-to);
-        layers-few = omega (arith, near-end (c .z) reach (d .z) (inside .z-in), b .z-to);
+        rows-few = omega (arith, near-end (c .y) reach (d .y) (inside (g .lo) (g .hi) (g .side) p reach .y-in), b .y-to);
+        layers-few = omega (arith, near-end (c .z) reach (d .z) (inside (g .lo) (g .hi) (g .side) p reach .z-in), b .z-to);
       }
