@@ -1,0 +1,8 @@
+-- What the proofs of several functions use, and the laws of placed surfels.
+pub mod Chained
+pub mod Linked
+pub mod Crowded
+pub mod Tried
+pub mod Seeded
+pub mod Columned
+pub mod Answered
