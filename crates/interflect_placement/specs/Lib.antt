@@ -1,0 +1,2 @@
+-- The definitions that the contracts of `interflect_placement` cite.
+pub mod Placing

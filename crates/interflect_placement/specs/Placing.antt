@@ -1,0 +1,19 @@
+-- What placement leaves through the C interface: document 01, 'Placement' and 'Refused calls'. It gives the number that is returned with what count and the columns hold then: a refusal
+-- leaves them as they were. Definitions only.
+use Prim.Native.Nat.{ℕ}
+use Rattle.placement.specs.declared.GenerateAnswer.{GenerateAnswer}
+use Rattle.placement.specs.declared.GenerateAnswer.the-variants.{Refused, Done}
+use Rattle.placement.specs.Answers.{generateAnswer}
+use Rattle.placement.specs.Lent.{Order, Columns}
+
+-- what each answer leaves: a refusal its number, else 0 and how many surfels were placed
+abbrev pub generateLeft : GenerateAnswer → ℕ → ℕ × ℕ
+generateLeft (Refused number) held = (number, held)
+generateLeft (Done count) held = (0, count)
+
+-- the entry
+abbrev pub interflectGenerate : Order → ℕ → Columns → ℕ → ℕ → ℕ × ℕ × Columns
+interflectGenerate o held l head next =
+    let a = generateAnswer o l head next in
+    let left = generateLeft (a .0) held in
+    (left .0, left .1, a .1)
