@@ -13,7 +13,7 @@ use Rattle.grid.specs.Rows.{blockNear, rowCell}
 use Rattle.grid.specs.Cells.{dimsOf, cells, cellOf, cellNumber}
 use Rattle.grid.specs.Needs.{Within}
 use Rattle.order.proofs.Digits.{same-digits}
-use Rattle.grid.proofs.Numbered.{dims-bounded, cell-within, row-major, number-below}
+use Rattle.grid.proofs.Numbered.{dims-bounded, cell-within, row-major}
 
 -- the number of the cell x y z
 abbrev pub number : Dims → ℕ → ℕ → ℕ → ℕ

@@ -1,8 +1,8 @@
 -- The cells near a point as rows of cells that follow one another: they lie in the grid, and what is visited are their numbers. Assumes nothing.
 use mathlib.Core.Bool.{Bool, true, and-eq-true-iff}
 use mathlib.Core.Path.{_≡_, sym, ap, _∙_}
-use Prim.Native.Nat.{ℕ, suc, _+_, _*_, _≤_, _<_}
-use native.Mathlib.Nat.{add-assoc, mul-suc, mul-add, mul-assoc, mul-le-mul-left}
+use Prim.Native.Nat.{ℕ, _+_, _≤_, _<_}
+use native.Mathlib.Nat.{add-assoc}
 use native.Mathlib.Omega.{arith}
 use lib.ListN.{length}
 use lib.Seq.{slice}
@@ -19,9 +19,8 @@ use Rattle.grid.specs.declared.Cell.{Cell}
 use Rattle.grid.specs.declared.Dims.{Dims}
 use Rattle.grid.specs.Lent.{Grid, cellsOf}
 use Rattle.grid.specs.Visiting.{firstNear, countNear, listed, visited}
-use Rattle.grid.specs.Rows.{blockNear, blockListed, rowCell, RowsHeld, Small}
-use Rattle.grid.specs.Cells.{dimsOf, cells, cellOf, cellNumber}
-use Rattle.grid.specs.Needs.{Within}
+use Rattle.grid.specs.Rows.{blockNear, blockListed, RowsHeld, Small}
+use Rattle.grid.specs.Cells.{dimsOf, cells, cellOf}
 use Rattle.grid.specs.Checks.{listFits, tests, refusal}
 use Rattle.grid.proofs.Numbered.{dims-bounded}
 use Rattle.grid.proofs.Around.{number, number-along, near-end, inside, first-row, row-end}

@@ -1,13 +1,12 @@
 -- What refuses a call, from its tests, what a call that is not refused was lent, and what it answers. Assumes nothing.
-use mathlib.Core.Bool.{Bool, true, false, cond, _&&_, and-eq-true-iff}
-use mathlib.Core.List.{List, [], _∷_, _++_}
-use mathlib.Core.Path.{_≡_, refl, sym, ap, _∙_}
-use Prim.Native.Nat.{ℕ, zero, suc, _≤_}
-use native.Mathlib.Omega.{arith}
-use borrow.Author.Tests.{leb-true, ltb-true, ne-eqb}
-use lib.Dec.{leb, ltb}
+use mathlib.Core.Bool.{Bool, true, false, _&&_, and-eq-true-iff}
+use mathlib.Core.List.{List, [], _∷_}
+use mathlib.Core.Path.{_≡_, sym, ap, _∙_}
+use Prim.Native.Nat.{ℕ, _≤_}
+use borrow.Author.Tests.{leb-true, ne-eqb}
+use lib.Dec.{leb}
 use lib.Ieee.{Float}
-use lib.ListN.{length, length-append}
+use lib.ListN.{length}
 use Rattle.float.specs.Arithmetic.{0f}
 use Rattle.vector.specs.declared.Vec3.{Vec3}
 use Rattle.vector.specs.Flat.{vecAt, written}
@@ -21,21 +20,19 @@ use Rattle.accept.proofs.Bounded.{at-most-le, three-each}
 use Rattle.accept.proofs.Every.{conj-each}
 use Rattle.accept.proofs.Refused.{none-failed}
 use Rattle.grid.specs.Cells.{cells}
-use Rattle.tables.specs.Tables.{Scene}
 use Rattle.tables.specs.Checks.{countsWithin, tablesHold, shapesWithin, partsFit}
-use Rattle.field.specs.declared.Projected.{Projected}
-use Rattle.field.specs.declared.Projected.the-variants.{On, None}
 use Rattle.seeds.specs.declared.Spacing.{Spacing}
-use Rattle.seeds.specs.Seeds.{spacingOf, landed}
+use Rattle.seeds.specs.Seeds.{spacingOf}
 use Rattle.seeds.specs.Surfels.{surfelAt}
 use Rattle.placement.specs.declared.GenerateAnswer.the-variants.{Refused, Done}
 use Rattle.placement.specs.Answers.{surfelOf, generateAnswer, headOpen, nextOpen}
 use Rattle.placement.specs.Chains.{pointsLeft}
 use Rattle.placement.specs.Checks.{spacingFor, headNeed, fewEnough, lengthsHold, columnsHold, laterTests, refusalBy, refusal}
-use Rattle.placement.specs.Kept.{dimsIn, seedCount, free, pointAt, keptWith, kept, placed, columnsBy}
+use Rattle.placement.specs.Kept.{dimsIn, pointAt, kept, placed, columnsBy}
 use Rattle.placement.specs.Lent.{Order, Columns, columnsOf}
 use Rattle.placement.specs.Needs.{Held, Roomy}
 use Rattle.placement.proofs.Columned.{roomy-fewer, columns-put-points}
+use Rattle.placement.proofs.Spread.{placed-few}
 
 -- the number from 3 on, from what each test answered
 pub later-by : (o : Order) (columns : Bool) (head next : ℕ) {s : Spacing} {need : ℕ} {bounded tables lent shapes floats parts : Bool}
@@ -150,23 +147,6 @@ module _ (o : Order) (l : Columns) (head next : ℕ) where
   unfolding nextOpen
   next-open-done e z = rw (← e, z)
 
--- one seed more keeps no more points than are asked for
-kept-more : (s : Spacing) (target : ℕ) (ps : List Vec3) (q : Projected) → length ps ≤ target → length (keptWith s target ps q) ≤ target
-unfolding keptWith
-kept-more s target ps None h = h
-kept-more s target ps (On p) h = kept-by (ltb (length ps) target) (free s (pointAt ps) (length ps) p) refl
-  where
-    kept-by : (b d : Bool) → ltb (length ps) target ≡ b → length (cond (b && d) (ps ++ (p ∷ [])) ps) ≤ target
-    kept-by true true e = rw (length-append ps (p ∷ [])) (omega (arith, ltb-true (length ps) target e))
-    kept-by true false e = h
-    kept-by false d e = h
-
--- nor does any number of seeds
-pub kept-few : (scene : Scene) (s : Spacing) (target m : ℕ) → length (kept scene s target m) ≤ target
-unfolding kept
-kept-few scene s target zero = omega arith
-kept-few scene s target (suc m) = kept-more s target (kept scene s target m) (landed scene s (suc m)) (kept-few scene s target m)
-
 -- from one function beneath to the next, with the spacing that the code finds
 module _ (o : Order) (l : Columns) {s : Spacing} (w : s ≡ spacingOf (o .lo) (o .hi) (ofWhole (o .target))) where
   -- it is that of the order
@@ -200,15 +180,10 @@ module _ (o : Order) (l : Columns) {s : Spacing} (w : s ≡ spacingOf (o .lo) (o
     unfolding pointsLeft
     points-are = ap (λ (x : ℕ × List Float). x .1) e
 
-    -- no more than are asked for
-    few-points : length kept-points ≤ o .target
-    unfolding placed
-    few-points = kept-few (o .scene) s (o .target) (seedCount (o .target))
-
     -- what `store` asks
     pub roomy-left : Roomy (o .target) l → Roomy c (columnsOf q (l .n) (l .albedo) (l .area) (l .direct) (l .irr) (l .rad))
     roomy-left r =
-        let f = roomy-fewer (length kept-points) (o .target) l few-points r in
+        let f = roomy-fewer (length kept-points) (o .target) l (placed-few (o .scene) s (o .target)) r in
         rw (count-is, points-are)
         (record {
           points = rw (length-written (pointAt kept-points) (length kept-points) (l .p) (f .points)) (f .points);

@@ -1,9 +1,9 @@
 -- The search over the cells about a point: none of them has a point that is too close exactly where none of all points is. Assumes nothing.
 use mathlib.Core.Bool.{Bool, true, false, not, _&&_, and-eq-true-iff}
 use mathlib.Core.List.{[], _∷_}
-use mathlib.Core.Logic.{_⊎_, inl, inr}
+use mathlib.Core.Logic.{inl, inr}
 use mathlib.Core.Path.{_≡_, refl, sym, ap, _∙_}
-use Prim.Native.Nat.{ℕ, zero, suc, _+_, _-_, _*_, _<_, _≤_}
+use Prim.Native.Nat.{ℕ, zero, suc, _+_, _-_, _<_, _≤_}
 use native.Mathlib.Nat.{eq-or-lt-of-le}
 use native.Mathlib.Omega.{arith}
 use borrow.Author.Tests.{eqb-true, eq-eqb, leb-true, le-leb}
@@ -11,7 +11,7 @@ use lib.Dec.{eqb, leb}
 use Rattle.float.specs.Arithmetic.{_/f_, 1f}
 use Rattle.float.proofs.Signs.{clash}
 use Rattle.vector.specs.declared.Vec3.{Vec3}
-use Rattle.accept.specs.Every.{every, conj}
+use Rattle.accept.specs.Every.{every}
 use Rattle.accept.proofs.Every.{every-at, every-all, conj-each}
 use Rattle.grid.specs.declared.Block.{Block}
 use Rattle.grid.specs.declared.Cell.{Cell}
@@ -21,7 +21,7 @@ use Rattle.grid.specs.Needs.{Within}
 use Rattle.grid.specs.Rows.{blockNear, rowCell}
 use Rattle.grid.specs.Visiting.{firstNear, countNear}
 use Rattle.grid.proofs.Numbered.{dims-bounded, cell-within, cells-few}
-use Rattle.grid.proofs.Around.{number, number-own, number-along, near-in, first, inside, first-row, row-end}
+use Rattle.grid.proofs.Around.{number, number-own, number-along, near-in, inside, first-row, row-end}
 use Rattle.field.proofs.Tests.{not-false}
 use Rattle.seeds.specs.declared.Spacing.{Spacing}
 use Rattle.placement.specs.Kept.{dimsIn, cellIn, beside, neighbouring, closer, tooClose, free}

@@ -1,7 +1,7 @@
 -- The cell that a point is chained in, and the chains with one point more. Assumes nothing.
 use mathlib.Core.List.{List}
-use mathlib.Core.Path.{_≡_, refl, sym, ap, _∙_}
-use Prim.Native.Nat.{ℕ, suc, _+_, _-_, _*_, _<_, _≤_}
+use mathlib.Core.Path.{_≡_, ap, _∙_}
+use Prim.Native.Nat.{ℕ, _+_, _-_, _*_, _<_}
 use native.Mathlib.Nat.{sub-zero}
 use native.Mathlib.Omega.{arith}
 use lib.Ieee.{Float}
@@ -11,7 +11,7 @@ use Rattle.vector.specs.declared.Vec3.{Vec3}
 use Rattle.vector.specs.Flat.{vecAt}
 use Rattle.accept.specs.Tables.{numberAt}
 use Rattle.grid.specs.declared.Block.{Block}
-use Rattle.grid.specs.Cells.{cells, cellNumber}
+use Rattle.grid.specs.Cells.{cells}
 use Rattle.grid.specs.Rows.{blockNear}
 use Rattle.grid.proofs.Numbered.{dims-bounded, cell-within, number-below}
 use Rattle.seeds.specs.declared.Spacing.{Spacing}

@@ -1,5 +1,5 @@
 -- The points kept of the first seeds, one seed more at a time, and what the loop over the seeds holds. Assumes nothing.
-use mathlib.Core.Bool.{Bool, true, false, cond, _&&_, not}
+use mathlib.Core.Bool.{Bool, true, false, not}
 use mathlib.Core.List.{List, [], _∷_, _++_}
 use mathlib.Core.Logic.{_⊎_, inl, inr}
 use mathlib.Core.Path.{_≡_, refl, sym, ap, _∙_}
@@ -8,14 +8,12 @@ use native.Mathlib.Nat.{add-zero, add-suc}
 use native.Mathlib.Numerals.{add-one}
 use native.Mathlib.Omega.{arith}
 use borrow.Author.Tests.{lt-ltb, le-ltb}
-use lib.Dec.{ltb}
 use lib.Ieee.{Float}
-use lib.ListN.{length, drop, length-append, List·getD-append}
-use lib.Seq.{drop-drop, getD-append-seam}
+use lib.ListN.{length, drop}
+use lib.Seq.{drop-drop}
 use Rattle.vector.specs.declared.Vec3.{Vec3}
-use Rattle.vector.specs.Vector.{zeroVec}
 use Rattle.vector.specs.Flat.{vecAt, putAt, written, filled}
-use Rattle.vector.proofs.Replaced.{rest-kept, written-none, written-put, written-same, at-written, length-written, length-filled}
+use Rattle.vector.proofs.Replaced.{rest-kept, written-none, written-put, written-same, at-written, length-filled}
 use Rattle.accept.proofs.Every.{every-same}
 use Rattle.grid.specs.Cells.{cells}
 use Rattle.tables.specs.Tables.{Scene}
@@ -24,9 +22,10 @@ use Rattle.field.specs.declared.Projected.the-variants.{On, None}
 use Rattle.seeds.specs.declared.Spacing.{Spacing}
 use Rattle.seeds.specs.Seeds.{landed}
 use Rattle.placement.specs.Kept.{dimsIn, tooClose, free, pointAt, keptWith, kept, placed, seedCount}
-use Rattle.placement.specs.Chains.{keyOf, Chained, Chains, tried, pointsLeft}
+use Rattle.placement.specs.Chains.{keyOf, Chains, tried, pointsLeft}
 use Rattle.placement.specs.Needs.{Held}
 use Rattle.placement.proofs.Chained.{chained-none}
+use Rattle.placement.proofs.Points.{length-more, point-before, point-last}
 
 -- zeros at the first places leave the rest
 filled-past : (n : ℕ) (l : List ℕ) → drop n (filled (λ c. 0) n l) ≡ drop n l
@@ -52,17 +51,6 @@ module _ (s : Spacing) (target m : ℕ) {p : List Float} {head next : List ℕ} 
 pub free-same : (s : Spacing) (f g : ℕ → Vec3) (n : ℕ) (p : Vec3) → ((j : ℕ) → j < n → f j ≡ g j) → free s f n p ≡ free s g n p
 unfolding free
 free-same s f g n p h = every-same (λ j. not (tooClose s p (f j))) (λ j. not (tooClose s p (g j))) n (λ j k. ap (λ (v : Vec3). not (tooClose s p v)) (h j k))
-
--- points with one more behind them
-module _ (ps : List Vec3) (v : Vec3) where
-  pub length-more : length (ps ++ (v ∷ [])) ≡ length ps + 1
-  length-more = length-append ps (v ∷ [])
-
-  pub point-before : (j : ℕ) → j < length ps → pointAt (ps ++ (v ∷ [])) j ≡ pointAt ps j
-  point-before j h = List·getD-append ps (v ∷ []) zeroVec j h
-
-  pub point-last : pointAt (ps ++ (v ∷ [])) (length ps) ≡ v
-  point-last = getD-append-seam ps v [] zeroVec
 
 -- a list has the points, and a seed is tried
 module _ (s : Spacing) (target : ℕ) (ps : List Vec3) (p₀ : List Float) {count : ℕ} {p : List Float} (e : count ≡ length ps) (few : count < target) (long : 3 * target ≤ length p₀)

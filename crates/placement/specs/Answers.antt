@@ -1,5 +1,4 @@
 -- What `generate` answers and leaves, refused or not: document 01, 'Placement' and 'Refused calls'. Definitions only.
-use mathlib.Core.List.{List}
 use Prim.Native.Nat.{ℕ}
 use lib.ListN.{length}
 use Rattle.vector.specs.declared.Vec3.{Vec3}

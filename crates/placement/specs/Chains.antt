@@ -9,7 +9,6 @@ use lib.ListN.{length}
 use Rattle.vector.specs.declared.Vec3.{Vec3}
 use Rattle.vector.specs.Flat.{vecAt, putAt, written}
 use Rattle.accept.specs.Every.{every}
-use Rattle.accept.specs.Limits.{maxSurfels}
 use Rattle.accept.specs.Tables.{numberAt}
 use Rattle.grid.specs.Cells.{cells, cellNumber}
 use Rattle.tables.specs.Tables.{Scene}

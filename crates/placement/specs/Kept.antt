@@ -4,7 +4,7 @@ use mathlib.Core.Bool.{Bool, cond, not, _&&_}
 use mathlib.Core.List.{List, [], _∷_, _++_}
 use Prim.Native.Nat.{ℕ, zero, suc, _+_, _*_, min}
 use lib.Dec.{leb, ltb}
-use lib.Ieee.{Float, lt}
+use lib.Ieee.{lt}
 use lib.ListN.{length, getD}
 use Rattle.float.specs.Arithmetic.{_*f_, _/f_, 1f}
 use Rattle.vector.specs.declared.Vec3.{Vec3}

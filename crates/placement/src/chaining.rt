@@ -6,7 +6,7 @@ use grid::block_near;
 use seeds::Spacing;
 use vector::Vec3;
 ghost use mathlib.Core.Path.{_≡_};
-ghost use Prim.Native.Nat.{_+_, _*_, _<_, _≤_};
+ghost use Prim.Native.Nat.{_+_, _*_, _<_};
 ghost use lib.ListN.{length};
 ghost use Rattle.accept.specs.Limits.{maxSurfels};
 ghost use Rattle.vector.specs.Flat.{KeptFrom, vecAt};

@@ -3,3 +3,4 @@ pub mod Digits
 pub mod Short
 pub mod Mirroring
 pub mod Exact
+pub mod Surface

@@ -3,7 +3,6 @@ use mathlib.Core.Path.{sym, ap, _∙_}
 use Prim.Native.Nat.{ℕ}
 use mathlib.Core.Bool.{Bool}
 use native.Mathlib.Omega.{arith}
-use Rattle.vector.specs.declared.Vec3.{Vec3}
 use Rattle.vector.specs.Flat.{vecAt}
 use Rattle.placement.specs.Kept.{closer}
 use Rattle.placement.specs.Chains.{keyOf}

@@ -1,7 +1,7 @@
 -- `placement::crowding::free` meets its contract. The cells that the loops have passed have no point that is too close; the one at which they break has. Assumes nothing.
 use mathlib.Core.Bool.{true}
 use mathlib.Core.Path.{_≡_, refl, sym, _∙_}
-use Prim.Native.Nat.{_-_, _≤_}
+use Prim.Native.Nat.{_-_}
 use native.Mathlib.Omega.{arith}
 use Rattle.vector.specs.Flat.{vecAt}
 use Rattle.field.proofs.Tests.{not-true, not-false}

@@ -1,13 +1,10 @@
 -- `placement::placing::place` meets its contract. The list has the points kept of the seeds tried so far, and they are chained. Assumes nothing.
 use mathlib.Core.Logic.{inl, inr}
-use mathlib.Core.Path.{refl, sym, ap, _∙_}
+use mathlib.Core.Path.{_∙_}
 use Prim.Native.Nat.{_-_, _≤_, _<_}
 use native.Mathlib.Omega.{arith}
-use lib.ListN.{length}
 use Rattle.tables.specs.Tables.{sceneOf}
-use Rattle.placement.specs.Kept.{seedCount}
 use Rattle.placement.proofs.Seeded.{SoFar, emptied, emptied-held, emptied-past, none-yet, one-more, all-done}
-use borrow.Author.Needs.{needs}
 use Rattle.placement.proofs.placing.place.Statement.{statement}
 use Rattle.placement.proofs.placing.place.Tie as tie
 

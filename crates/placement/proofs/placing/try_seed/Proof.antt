@@ -1,10 +1,9 @@
 -- `placement::placing::try_seed` meets its contract. Where the seed lands and there is room its point is stored and chained, and elsewhere nothing changes. Assumes nothing.
-use mathlib.Core.Path.{refl, sym, ap, _∙_}
-use Prim.Native.Nat.{ℕ, _+_, _*_}
+use mathlib.Core.Path.{refl, sym, _∙_}
+use Prim.Native.Nat.{_*_}
 use native.Mathlib.Omega.{arith}
-use lib.ListN.{length, drop}
 use lib.Seq.{length-sets}
-use Rattle.vector.specs.Flat.{vecAt, putAt, components}
+use Rattle.vector.specs.Flat.{components}
 use Rattle.vector.proofs.Puts.{at-put}
 use Rattle.placement.proofs.Tried.{try-none, try-kept, try-left, chains-put}
 use borrow.Author.Needs.{needs}
