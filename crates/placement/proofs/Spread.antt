@@ -8,15 +8,20 @@ use native.Mathlib.Nat.{eq-or-lt-of-le}
 use native.Mathlib.Omega.{arith}
 use borrow.Author.Tests.{ltb-true}
 use lib.Dec.{ltb}
+use lib.Ieee.{binary32, ofBits, lt}
 use lib.ListN.{length}
+use Rattle.float.specs.Arithmetic.{_*f_}
+use Rattle.float.specs.Sign.{abs}
 use Rattle.vector.specs.declared.Vec3.{Vec3}
 use Rattle.accept.proofs.Every.{every-at}
 use Rattle.tables.specs.Tables.{Scene}
 use Rattle.field.specs.declared.Projected.{Projected}
 use Rattle.field.specs.declared.Projected.the-variants.{On, None}
+use Rattle.field.specs.Nearest.{dist}
 use Rattle.field.proofs.Tests.{not-true}
 use Rattle.seeds.specs.declared.Spacing.{Spacing}
-use Rattle.seeds.specs.Seeds.{landed}
+use Rattle.seeds.specs.Seeds.{outside, landed}
+use Rattle.seeds.proofs.Surface.{landed-within}
 use Rattle.placement.specs.Kept.{tooClose, free, pointAt, keptWith, kept, placed, seedCount}
 use Rattle.placement.proofs.Points.{length-more, point-before, point-last}
 
@@ -94,3 +99,10 @@ module _ (scene : Scene) (s : Spacing) (target : ℕ) where
 
   pub placed-few : length (placed scene s target) ≤ target
   placed-few = placed-spread .few
+
+  -- each is nearer to the surface than 0.02 of the least distance, and no component is below lo or above hi
+  pub placed-within : (i : ℕ) → i < length (placed scene s target)
+      → (lt (abs (dist scene (pointAt (placed scene s target) i))) (s .«d_min» *f ofBits binary32 0x3ca3_d70a) ≡ true) × (outside (s .lo) (s .hi) (pointAt (placed scene s target) i) ≡ false)
+  placed-within i h =
+      let l = placed-spread .lands i h in
+      landed-within scene s (l .number) (pointAt (placed scene s target) i) (l .there)
