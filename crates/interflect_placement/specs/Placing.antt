@@ -4,7 +4,7 @@ use Prim.Native.Nat.{ℕ}
 use Rattle.placement.specs.declared.GenerateAnswer.{GenerateAnswer}
 use Rattle.placement.specs.declared.GenerateAnswer.the-variants.{Refused, Done}
 use Rattle.placement.specs.Answers.{generateAnswer}
-use Rattle.placement.specs.Lent.{Order, Columns}
+use Rattle.placement.specs.Lent.{Request, Columns}
 
 -- what each answer leaves: a refusal its number, else 0 and how many surfels were placed
 abbrev pub generateLeft : GenerateAnswer → ℕ → ℕ × ℕ
@@ -12,7 +12,7 @@ generateLeft (Refused number) held = (number, held)
 generateLeft (Done count) held = (0, count)
 
 -- the entry
-abbrev pub interflectGenerate : Order → ℕ → Columns → ℕ → ℕ → ℕ × ℕ × Columns
+abbrev pub interflectGenerate : Request → ℕ → Columns → ℕ → ℕ → ℕ × ℕ × Columns
 interflectGenerate o held l head next =
     let a = generateAnswer o l head next in
     let left = generateLeft (a .0) held in

@@ -6,7 +6,7 @@ ghost use lib.ListN.{length};
 ghost use Rattle.vector.specs.Flat.{KeptFrom};
 ghost use Rattle.vector.specs.Vector.{vec};
 ghost use Rattle.tables.specs.Tables.{sceneIn};
-ghost use Rattle.placement.specs.Lent.{orderIn, columnsIn, columnsOut};
+ghost use Rattle.placement.specs.Lent.{requestIn, columnsIn, columnsOut};
 ghost use Rattle.placement.specs.Answers.{headOpen, nextOpen};
 ghost use Rattle.interflect_placement.specs.Placing.{interflectGenerate};
 
@@ -42,12 +42,12 @@ pub extern "C" fn interflect_generate(
     count: &mut usize,
 ) -> u32
     ensures { λ r. ⌜ (r, now (count .exit), columnsOut p n albedo area direct irr rad)
-        ≡ interflectGenerate (orderIn (sceneIn prims planes objects kinds lengths «plane_parts» «object_parts») mats materials (vec lox loy loz)
+        ≡ interflectGenerate (requestIn (sceneIn prims planes objects kinds lengths «plane_parts» «object_parts») mats materials (vec lox loy loz)
         (vec hix hiy hiz) target) (now (count .entry)) (columnsIn p n albedo area direct irr rad) (length (now (head .entry)))
         (length (now (next .entry))) ⌝ }
-    ensures { λ r. ⌜ KeptFrom (headOpen (orderIn (sceneIn prims planes objects kinds lengths «plane_parts» «object_parts») mats materials (vec lox loy loz)
+    ensures { λ r. ⌜ KeptFrom (headOpen (requestIn (sceneIn prims planes objects kinds lengths «plane_parts» «object_parts») mats materials (vec lox loy loz)
         (vec hix hiy hiz) target) (columnsIn p n albedo area direct irr rad) (length (now (head .entry))) (length (now (next .entry)))) head ⌝ }
-    ensures { λ r. ⌜ KeptFrom (nextOpen (orderIn (sceneIn prims planes objects kinds lengths «plane_parts» «object_parts») mats materials (vec lox loy loz)
+    ensures { λ r. ⌜ KeptFrom (nextOpen (requestIn (sceneIn prims planes objects kinds lengths «plane_parts» «object_parts») mats materials (vec lox loy loz)
         (vec hix hiy hiz) target) (columnsIn p n albedo area direct irr rad) (length (now (head .entry))) (length (now (next .entry)))) next ⌝ }
 {
     let answer = placement::generate(

@@ -29,13 +29,13 @@ use Rattle.placement.specs.Answers.{surfelOf, generateAnswer, headOpen, 
 use Rattle.placement.specs.Chains.{pointsLeft}
 use Rattle.placement.specs.Checks.{spacingFor, headNeed, fewEnough, lengthsHold, columnsHold, laterTests, refusalBy, refusal}
 use Rattle.placement.specs.Kept.{dimsIn, pointAt, kept, placed, columnsBy}
-use Rattle.placement.specs.Lent.{Order, Columns, columnsOf}
+use Rattle.placement.specs.Lent.{Request, Columns, columnsOf}
 use Rattle.placement.specs.Needs.{Held, Roomy}
 use Rattle.placement.proofs.Columned.{roomy-fewer, columns-put-points}
 use Rattle.placement.proofs.Spread.{placed-few}
 
 -- the number from 3 on, from what each test answered
-pub later-by : (o : Order) (columns : Bool) (head next : ℕ) {s : Spacing} {need : ℕ} {bounded tables lent shapes floats parts : Bool}
+pub later-by : (o : Request) (columns : Bool) (head next : ℕ) {s : Spacing} {need : ℕ} {bounded tables lent shapes floats parts : Bool}
     → s ≡ spacingOf (o .lo) (o .hi) (ofWhole (o .target)) → need ≡ cells (dimsIn s)
     → bounded ≡ bounds (o .lo) (o .hi)
     → tables ≡ tablesHold (o .scene) → lent ≡ holds (length (o .materials)) (o .mats) 4
@@ -47,7 +47,7 @@ unfolding firstFailed headNeed spacingFor
 later-by o columns head next a b c d e f g h = rw (b, a, c, d, e, f, g, h)
 
 -- the three tests of 2
-module _ (o : Order) {target entries mats : Bool} (a : target ≡ atMost (o .target) maxSurfels)
+module _ (o : Request) {target entries mats : Bool} (a : target ≡ atMost (o .target) maxSurfels)
     (b : entries ≡ countsWithin (o .scene .prims) (o .scene .planes) (o .scene .objects)) (c : mats ≡ atMost (o .mats) maxEntries) where
   -- where they passed, the target is within its limit
   pub target-few : ((target && entries) && mats) ≡ true → o .target ≤ maxSurfels
@@ -65,7 +65,7 @@ module _ (o : Order) {target entries mats : Bool} (a : target ≡ atMost (o .tar
   unfolding firstFailed fewEnough
   number-many columns head next t = rw (← a, ← b, ← c, t)
 
-module _ (o : Order) (l : Columns) (head next : ℕ) where
+module _ (o : Request) (l : Columns) (head next : ℕ) where
   -- what the functions beneath ask
   pub record Accepted : Type 0 where
     pub few : o .target ≤ maxSurfels
@@ -148,8 +148,8 @@ module _ (o : Order) (l : Columns) (head next : ℕ) where
   next-open-done e z = rw (← e, z)
 
 -- from one function beneath to the next, with the spacing that the code finds
-module _ (o : Order) (l : Columns) {s : Spacing} (w : s ≡ spacingOf (o .lo) (o .hi) (ofWhole (o .target))) where
-  -- it is that of the order
+module _ (o : Request) (l : Columns) {s : Spacing} (w : s ≡ spacingOf (o .lo) (o .hi) (ofWhole (o .target))) where
+  -- it is that of the request
   spacing-is : s ≡ spacingFor o
   unfolding spacingFor
   spacing-is = w

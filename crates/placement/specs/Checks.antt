@@ -16,18 +16,18 @@ use Rattle.tables.specs.Checks.{countsWithin, tablesHold, shapesWithin, partsFi
 use Rattle.seeds.specs.declared.Spacing.{Spacing}
 use Rattle.seeds.specs.Seeds.{spacingOf}
 use Rattle.placement.specs.Kept.{dimsIn}
-use Rattle.placement.specs.Lent.{Order, Columns}
+use Rattle.placement.specs.Lent.{Request, Columns}
 
 -- the spacing of the surfels that are asked for
-unfoldable pub spacingFor : Order → Spacing
+unfoldable pub spacingFor : Request → Spacing
 spacingFor o = spacingOf (o .lo) (o .hi) (ofWhole (o .target))
 
 -- how much scratch is needed of head: a number a cell. Of next it is a number a surfel
-unfoldable pub headNeed : Order → ℕ
+unfoldable pub headNeed : Request → ℕ
 headNeed o = cells (dimsIn (spacingFor o))
 
 -- 2: surfels, and the entries of the tables
-unfoldable pub fewEnough : Order → Bool
+unfoldable pub fewEnough : Request → Bool
 fewEnough o =
     let s = o .scene in
     conj (atMost (o .target) maxSurfels ∷ countsWithin (s .prims) (s .planes) (s .objects) ∷ atMost (o .mats) maxEntries ∷ [])
@@ -50,7 +50,7 @@ columnsHold target l =
     lengthsHold target (length (l .p)) (length (l .n)) (length (l .albedo)) (length (l .area)) (length (l .direct)) (length (l .irr)) (length (l .rad))
 
 -- the tests from 3 on, in their order, each with its number; whether the columns hold is handed in, and the scratch is given by its lengths
-abbrev pub laterTests : Order → Bool → ℕ → ℕ → List (ℕ × Bool)
+abbrev pub laterTests : Request → Bool → ℕ → ℕ → List (ℕ × Bool)
 laterTests o columns head next =
     (3, bounds (o .lo) (o .hi))
     ∷ (4, conj (tablesHold (o .scene) ∷ holds (length (o .materials)) (o .mats) 4 ∷ columns ∷ leb (headNeed o) head ∷ leb (o .target) next ∷ []))
@@ -59,8 +59,8 @@ laterTests o columns head next =
     ∷ []
 
 -- the number that refuses the call, 0 if none does
-abbrev pub refusalBy : Order → Bool → ℕ → ℕ → ℕ
+abbrev pub refusalBy : Request → Bool → ℕ → ℕ → ℕ
 refusalBy o columns head next = firstFailed ((2, fewEnough o) ∷ laterTests o columns head next)
 
-unfoldable pub refusal : Order → Columns → ℕ → ℕ → ℕ
+unfoldable pub refusal : Request → Columns → ℕ → ℕ → ℕ
 refusal o l head next = refusalBy o (columnsHold (o .target) l) head next

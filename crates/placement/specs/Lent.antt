@@ -8,7 +8,7 @@ use Rattle.vector.specs.Flat.{Slice}
 use Rattle.tables.specs.Tables.{Scene}
 
 -- a scene, so many materials, the bounds from lo to hi, and how many surfels are asked for
-pub record Order : Type 0 where
+pub record Request : Type 0 where
   pub scene : Scene
   pub mats : ℕ
   pub materials : List Float
@@ -26,13 +26,13 @@ pub record Columns : Type 0 where
   pub irr : List Float
   pub rad : List Float
 
--- the order of these numbers and lists, and the one that a function was given
-abbrev pub orderOf : Scene → ℕ → List Float → Vec3 → Vec3 → ℕ → Order
-orderOf scene mats materials lo hi target =
+-- the request of these numbers and lists, and the one that a function was given
+abbrev pub requestOf : Scene → ℕ → List Float → Vec3 → Vec3 → ℕ → Request
+requestOf scene mats materials lo hi target =
     record { scene = scene; mats = mats; materials = materials; lo = lo; hi = hi; target = target }
 
-abbrev pub orderIn : Scene → ℕ → Slice Float → Vec3 → Vec3 → ℕ → Order
-orderIn scene mats materials lo hi target = orderOf scene mats (now (materials .entry)) lo hi target
+abbrev pub requestIn : Scene → ℕ → Slice Float → Vec3 → Vec3 → ℕ → Request
+requestIn scene mats materials lo hi target = requestOf scene mats (now (materials .entry)) lo hi target
 
 -- the columns of these lists
 abbrev pub columnsOf : List Float → List Float → List Float → List Float → List Float → List Float → List Float → Columns

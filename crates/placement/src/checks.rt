@@ -22,7 +22,7 @@ ghost use Rattle.accept.specs.Limits.{maxSurfels};
 ghost use Rattle.accept.specs.Refusal.{firstFailed};
 ghost use Rattle.tables.specs.Tables.{sceneIn};
 ghost use Rattle.seeds.specs.Seeds.{spacingOf};
-ghost use Rattle.placement.specs.Lent.{orderIn};
+ghost use Rattle.placement.specs.Lent.{requestIn};
 ghost use Rattle.placement.specs.Checks.{lengthsHold, laterTests, refusalBy};
 
 // The number that refuses to place surfels, 0 if none does. Whether the columns are long enough is
@@ -44,7 +44,7 @@ pub fn refusal(
     head: usize,
     next: usize,
 ) -> u32
-    ensures { λ r. ⌜ r ≡ refusalBy (orderIn (sceneIn prims planes objects kinds lengths «plane_parts» «object_parts») mats materials lo hi target)
+    ensures { λ r. ⌜ r ≡ refusalBy (requestIn (sceneIn prims planes objects kinds lengths «plane_parts» «object_parts») mats materials lo hi target)
         columns head next ⌝ }
 {
     let few = at_most(target, MAX_SURFELS)
@@ -92,7 +92,7 @@ fn later_refusal(
     next: usize,
 ) -> u32
     requires { ⌜ target ≤ maxSurfels ⌝ }
-    ensures { λ r. ⌜ r ≡ firstFailed (laterTests (orderIn (sceneIn prims planes objects kinds lengths «plane_parts» «object_parts») mats materials lo hi
+    ensures { λ r. ⌜ r ≡ firstFailed (laterTests (requestIn (sceneIn prims planes objects kinds lengths «plane_parts» «object_parts») mats materials lo hi
         target) columns head next) ⌝ }
 {
     let s = spacing_for(lo, hi, target);

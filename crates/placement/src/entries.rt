@@ -11,7 +11,7 @@ ghost use mathlib.Core.Path.{_≡_};
 ghost use lib.ListN.{length};
 ghost use Rattle.vector.specs.Flat.{KeptFrom};
 ghost use Rattle.tables.specs.Tables.{sceneIn};
-ghost use Rattle.placement.specs.Lent.{orderIn, columnsIn, columnsOut};
+ghost use Rattle.placement.specs.Lent.{requestIn, columnsIn, columnsOut};
 ghost use Rattle.placement.specs.Answers.{generateAnswer, headOpen, nextOpen};
 
 // Places at most `target` surfels on the surface of a scene, within the box from lo to hi, and answers
@@ -40,11 +40,11 @@ pub fn generate(
     next: &mut [u32],
 ) -> GenerateAnswer
     ensures { λ r. ⌜ (r, columnsOut p n albedo area direct irr rad)
-        ≡ generateAnswer (orderIn (sceneIn prims planes objects kinds lengths «plane_parts» «object_parts») mats materials lo hi target)
+        ≡ generateAnswer (requestIn (sceneIn prims planes objects kinds lengths «plane_parts» «object_parts») mats materials lo hi target)
         (columnsIn p n albedo area direct irr rad) (length (now (head .entry))) (length (now (next .entry))) ⌝ }
-    ensures { λ r. ⌜ KeptFrom (headOpen (orderIn (sceneIn prims planes objects kinds lengths «plane_parts» «object_parts») mats materials lo hi target)
+    ensures { λ r. ⌜ KeptFrom (headOpen (requestIn (sceneIn prims planes objects kinds lengths «plane_parts» «object_parts») mats materials lo hi target)
         (columnsIn p n albedo area direct irr rad) (length (now (head .entry))) (length (now (next .entry)))) head ⌝ }
-    ensures { λ r. ⌜ KeptFrom (nextOpen (orderIn (sceneIn prims planes objects kinds lengths «plane_parts» «object_parts») mats materials lo hi target)
+    ensures { λ r. ⌜ KeptFrom (nextOpen (requestIn (sceneIn prims planes objects kinds lengths «plane_parts» «object_parts») mats materials lo hi target)
         (columnsIn p n albedo area direct irr rad) (length (now (head .entry))) (length (now (next .entry)))) next ⌝ }
 {
     let columns = columns_hold(

@@ -2,7 +2,7 @@
 use mathlib.Core.Path.{refl, sym, _∙_}
 use lib.ListN.{length}
 use Rattle.tables.specs.Tables.{sceneOf}
-use Rattle.placement.specs.Lent.{orderOf, columnsOf}
+use Rattle.placement.specs.Lent.{requestOf, columnsOf}
 use Rattle.placement.proofs.Answered.{accepted, number-is, answer-refused, head-open-done, next-open-done, need-is, held, roomy-left, answer-stored}
 use Rattle.placement.proofs.entries.generate.Statement.{statement}
 use Rattle.placement.proofs.entries.generate.Tie as tie
@@ -12,7 +12,7 @@ returns c =
     let re = c .before in
     let ch = re .before in
     let a = ch .before .before .before .before .before .before .before .before .before .before .before .before .before .before .before .args in
-    let o = orderOf (sceneOf (a .prims) (a .planes) (a .objects) (a .kinds .now) (a .lengths .now) (a .plane-parts .now) (a .object-parts .now)) (a .mats) (a .materials .now) (a .lo) (a .hi) (a .target) in
+    let o = requestOf (sceneOf (a .prims) (a .planes) (a .objects) (a .kinds .now) (a .lengths .now) (a .plane-parts .now) (a .object-parts .now)) (a .mats) (a .materials .now) (a .lo) (a .hi) (a .target) in
     let l = columnsOf (a .p .now) (a .n .now) (a .albedo .now) (a .area .now) (a .direct .now) (a .irr .now) (a .rad .now) in
     let number = number-is o l (length (a .head .now)) (length (a .next .now)) (ch .columns-hold .ensures) (re .refusal .ensures) in
     (answer-refused o l (length (a .head .now)) (length (a .next .now)) number (c .if1 .taken), (refl, refl))
@@ -22,7 +22,7 @@ spacing-for-requires c κs =
     let re = c .before in
     let ch = re .before in
     let a = ch .before .before .before .before .before .before .before .before .before .before .before .before .before .before .before .args in
-    let o = orderOf (sceneOf (a .prims) (a .planes) (a .objects) (a .kinds .now) (a .lengths .now) (a .plane-parts .now) (a .object-parts .now)) (a .mats) (a .materials .now) (a .lo) (a .hi) (a .target) in
+    let o = requestOf (sceneOf (a .prims) (a .planes) (a .objects) (a .kinds .now) (a .lengths .now) (a .plane-parts .now) (a .object-parts .now)) (a .mats) (a .materials .now) (a .lo) (a .hi) (a .target) in
     let l = columnsOf (a .p .now) (a .n .now) (a .albedo .now) (a .area .now) (a .direct .now) (a .irr .now) (a .rad .now) in
     let number = number-is o l (length (a .head .now)) (length (a .next .now)) (ch .columns-hold .ensures) (re .refusal .ensures) in
     accepted o l (length (a .head .now)) (length (a .next .now)) (sym number ∙ c .if1 .left) .few
@@ -33,7 +33,7 @@ place-requires c κs =
     let re = sf .before .before in
     let ch = re .before in
     let a = ch .before .before .before .before .before .before .before .before .before .before .before .before .before .before .before .args in
-    let o = orderOf (sceneOf (a .prims) (a .planes) (a .objects) (a .kinds .now) (a .lengths .now) (a .plane-parts .now) (a .object-parts .now)) (a .mats) (a .materials .now) (a .lo) (a .hi) (a .target) in
+    let o = requestOf (sceneOf (a .prims) (a .planes) (a .objects) (a .kinds .now) (a .lengths .now) (a .plane-parts .now) (a .object-parts .now)) (a .mats) (a .materials .now) (a .lo) (a .hi) (a .target) in
     let l = columnsOf (a .p .now) (a .n .now) (a .albedo .now) (a .area .now) (a .direct .now) (a .irr .now) (a .rad .now) in
     let number = number-is o l (length (a .head .now)) (length (a .next .now)) (ch .columns-hold .ensures) (re .refusal .ensures) in
     held o l (sf .spacing-for .ensures) (a .head .now) (a .next .now) (sym number ∙ sf .before .if1 .left)
@@ -45,7 +45,7 @@ store-requires c κs =
     let re = sf .before .before in
     let ch = re .before in
     let a = ch .before .before .before .before .before .before .before .before .before .before .before .before .before .before .before .args in
-    let o = orderOf (sceneOf (a .prims) (a .planes) (a .objects) (a .kinds .now) (a .lengths .now) (a .plane-parts .now) (a .object-parts .now)) (a .mats) (a .materials .now) (a .lo) (a .hi) (a .target) in
+    let o = requestOf (sceneOf (a .prims) (a .planes) (a .objects) (a .kinds .now) (a .lengths .now) (a .plane-parts .now) (a .object-parts .now)) (a .mats) (a .materials .now) (a .lo) (a .hi) (a .target) in
     let l = columnsOf (a .p .now) (a .n .now) (a .albedo .now) (a .area .now) (a .direct .now) (a .irr .now) (a .rad .now) in
     let number = number-is o l (length (a .head .now)) (length (a .next .now)) (ch .columns-hold .ensures) (re .refusal .ensures) in
     roomy-left o l (sf .spacing-for .ensures) (pl .place .ensures .0) (accepted o l (length (a .head .now)) (length (a .next .now)) (sym number ∙ sf .before .if1 .left) .roomy)
@@ -58,7 +58,7 @@ returns-2 c =
     let re = sf .before .before in
     let ch = re .before in
     let a = ch .before .before .before .before .before .before .before .before .before .before .before .before .before .before .before .args in
-    let o = orderOf (sceneOf (a .prims) (a .planes) (a .objects) (a .kinds .now) (a .lengths .now) (a .plane-parts .now) (a .object-parts .now)) (a .mats) (a .materials .now) (a .lo) (a .hi) (a .target) in
+    let o = requestOf (sceneOf (a .prims) (a .planes) (a .objects) (a .kinds .now) (a .lengths .now) (a .plane-parts .now) (a .object-parts .now)) (a .mats) (a .materials .now) (a .lo) (a .hi) (a .target) in
     let l = columnsOf (a .p .now) (a .n .now) (a .albedo .now) (a .area .now) (a .direct .now) (a .irr .now) (a .rad .now) in
     let number = number-is o l (length (a .head .now)) (length (a .next .now)) (ch .columns-hold .ensures) (re .refusal .ensures) in
     let w = sf .spacing-for .ensures in
