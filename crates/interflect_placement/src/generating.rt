@@ -45,10 +45,12 @@ pub extern "C" fn interflect_generate(
         ≡ interflectGenerate (requestIn (sceneIn prims planes objects kinds lengths «plane_parts» «object_parts») mats materials (vec lox loy loz)
         (vec hix hiy hiz) target) (now (count .entry)) (columnsIn p n albedo area direct irr rad) (length (now (head .entry)))
         (length (now (next .entry))) ⌝ }
-    ensures { λ r. ⌜ KeptFrom (headOpen (requestIn (sceneIn prims planes objects kinds lengths «plane_parts» «object_parts») mats materials (vec lox loy loz)
-        (vec hix hiy hiz) target) (columnsIn p n albedo area direct irr rad) (length (now (head .entry))) (length (now (next .entry)))) head ⌝ }
-    ensures { λ r. ⌜ KeptFrom (nextOpen (requestIn (sceneIn prims planes objects kinds lengths «plane_parts» «object_parts») mats materials (vec lox loy loz)
-        (vec hix hiy hiz) target) (columnsIn p n albedo area direct irr rad) (length (now (head .entry))) (length (now (next .entry)))) next ⌝ }
+    ensures { λ r. ⌜ KeptFrom (headOpen (requestIn (sceneIn prims planes objects kinds lengths «plane_parts» «object_parts») mats materials
+        (vec lox loy loz) (vec hix hiy hiz) target) (columnsIn p n albedo area direct irr rad) (length (now (head .entry)))
+        (length (now (next .entry)))) head ⌝ }
+    ensures { λ r. ⌜ KeptFrom (nextOpen (requestIn (sceneIn prims planes objects kinds lengths «plane_parts» «object_parts») mats materials
+        (vec lox loy loz) (vec hix hiy hiz) target) (columnsIn p n albedo area direct irr rad) (length (now (head .entry)))
+        (length (now (next .entry)))) next ⌝ }
 {
     let answer = placement::generate(
         prims,

@@ -92,8 +92,8 @@ fn later_refusal(
     next: usize,
 ) -> u32
     requires { ⌜ target ≤ maxSurfels ⌝ }
-    ensures { λ r. ⌜ r ≡ firstFailed (laterTests (requestIn (sceneIn prims planes objects kinds lengths «plane_parts» «object_parts») mats materials lo hi
-        target) columns head next) ⌝ }
+    ensures { λ r. ⌜ r ≡ firstFailed (laterTests (requestIn (sceneIn prims planes objects kinds lengths «plane_parts» «object_parts») mats
+        materials lo hi target) columns head next) ⌝ }
 {
     let s = spacing_for(lo, hi, target);
     let need = cells(s.lo, s.hi, s.d_min);
