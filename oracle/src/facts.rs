@@ -1,6 +1,6 @@
 //! Facts that document 01 gives, asked of this build of the Rust, places where another order of
-//! float steps gives other bits, and the tables of the closure's directions. `oracle/build` runs
-//! these tests.
+//! float steps gives other bits, the tables of the closure's directions, and the steps of placement.
+//! `oracle/build` runs these tests.
 
 use interflect::formfactor::{self, Cluster, Transfer};
 use interflect::scene::{open::of_shapes, QuadLight, Scene};
@@ -338,7 +338,6 @@ fn a_reset_sets_the_light() {
     surfels[0].irr = Vec3::splat(f32::NAN);
     light_surfels(&scene, &mut surfels);
     let [s] = surfels;
-    let bits = |v: Vec3| [v.x, v.y, v.z].map(f32::to_bits);
     assert!(s.direct.x > 0.0 && s.direct.x != 1.0);
     assert_eq!(bits(s.rad), bits(s.direct));
     assert_eq!(bits(s.irr), [0; 3]);
@@ -528,4 +527,151 @@ fn the_closure_takes_these_directions() {
             assert_eq!(closure, closure_by_table(&scene, p, n, tmax));
         }
     }
+}
+
+// ---- placement
+
+/// The seeds 1, 2 and 3, in bases 2, 3 and 5. 1/9 by one division would be 3DE38E39.
+#[test]
+fn the_first_three_seeds() {
+    let seed = |i| [2, 3, 5].map(|base| surfel::open::halton(i, base).to_bits());
+    assert_eq!(seed(1), [0x3F000000, 0x3EAAAAAB, 0x3E4CCCCD]);
+    assert_eq!(seed(2), [0x3E800000, 0x3F2AAAAB, 0x3ECCCCCD]);
+    assert_eq!(seed(3), [0x3F400000, 0x3DE38E3A, 0x3F19999A]);
+}
+
+/// The surfels of a scene of planes and objects in a box.
+fn placed(planes: Vec<Object>, objects: Vec<Object>, lo: Vec3, hi: Vec3, n: usize) -> Vec<Surfel> {
+    let mut scene = of_shapes(planes, objects);
+    scene.bounds = (lo, hi);
+    surfel::generate(&scene, n)
+}
+
+/// The floor of a box from 0 to this corner, whose normal is as long as this.
+fn on_floor(hi: Vec3, length: f32, h: f32, n: usize) -> Vec<Surfel> {
+    let floor = plane(Vec3::new(0.0, length, 0.0), h);
+    placed(vec![floor], Vec::new(), Vec3::ZERO, hi, n)
+}
+
+fn bits(v: Vec3) -> [u32; 3] {
+    [v.x, v.y, v.z].map(f32::to_bits)
+}
+
+/// Bounds without height on a plane: every seed is on it at once. The first is seed 1, not seed 0, which
+/// would be at zero.
+#[test]
+fn the_seeds_start_at_1() {
+    let surfels = on_floor(Vec3::new(4.0, 0.0, 2.0), 1.0, 0.0, 1);
+    assert_eq!(bits(surfels[0].p), bits(Vec3::new(2.0, 0.0, 0.4)));
+    assert_eq!(surfels.len(), 1);
+}
+
+/// A ball and the target 1: where the first seed goes, its normal, its area and its albedo.
+#[test]
+fn one_surfel_on_a_ball() {
+    let ball = alone(Prim::Sphere {
+        c: Vec3::ZERO,
+        r: 1.0,
+    });
+    let (lo, hi) = (Vec3::splat(-2.0), Vec3::splat(2.0));
+    let surfels = placed(Vec::new(), vec![ball], lo, hi, 1);
+    let s = &surfels[0];
+    assert_eq!(bits(s.p), [0x38BA6481, 0xBEF8A339, 0xBF5FC99A]);
+    assert_eq!(bits(s.n), [0xB8F9FBEE, 0xBEF8A433, 0xBF5FC953]);
+    assert_eq!(s.area.to_bits(), 0x4293B13B);
+    assert_eq!(bits(s.albedo), bits(Vec3::splat(0.8)));
+}
+
+/// A box of 2, 3 and 6 has a diagonal of 7: the target 49 sets surfels 1 apart, and each stands for
+/// 1 / 0.65.
+#[test]
+fn the_separation_and_the_area() {
+    let surfels = on_floor(Vec3::new(2.0, 3.0, 6.0), 1.0, 1.0, 49);
+    assert_eq!((1.0f32 / 0.65).to_bits(), 0x3FC4EC4F);
+    assert_eq!(surfels[0].area.to_bits(), 0x3FC4EC4F);
+}
+
+/// The same box lifted so that the first seed's y is 0; eps is 0.02. Nearer than that the seed stays, at
+/// eps it is moved onto the plane.
+#[test]
+fn the_first_test_is_at_eps() {
+    let first = |h: f32| {
+        let floor = plane(Vec3::Y, h);
+        let (lo, hi) = (Vec3::new(0.0, -1.0, 0.0), Vec3::new(2.0, 2.0, 6.0));
+        placed(vec![floor], Vec::new(), lo, hi, 49)[0].p.y
+    };
+    assert_eq!(first(0.02f32.next_down()), 0.0);
+    assert_eq!(first(0.02), 0.02);
+    assert_eq!(first(0.03), 0.03);
+}
+
+/// Ten tests, with nine steps between them. From y = 1/3 a normal of length 0.32 leaves 0.0033 at the
+/// tenth, less than eps: seed 1 is kept. One of length 0.3 leaves 0.004, and the next step, which would
+/// be near enough, is not tested: seed 3 is the first that is kept.
+#[test]
+fn ten_tests_and_no_more() {
+    let first = |length| on_floor(Vec3::ONE, length, 0.0, 100)[0].p.x;
+    assert_eq!([first(0.32), first(0.3)], [0.5, 0.75]);
+}
+
+/// A seed whose distance is over the diagonal is dropped, one at it is not. With a normal of length 1.5
+/// the second seed, at y = 1.3333334, has distance 2, the diagonal: its steps end near 1/64 of that y.
+#[test]
+fn a_distance_of_the_diagonal_is_not_too_far() {
+    let surfels = on_floor(Vec3::new(0.0, 2.0, 0.0), 1.5, 0.0, 1);
+    assert_eq!(surfels[0].p.y.to_bits(), 0x3CAAAAAA);
+}
+
+/// On a line of 4 the target 16 sets surfels 1 apart. The seeds 2, 1 and 3 are exactly 1 apart, and are
+/// kept.
+#[test]
+fn exactly_the_separation_is_not_too_close() {
+    let surfels = on_floor(Vec3::new(4.0, 0.0, 0.0), 1.0, 0.0, 16);
+    let places: Vec<f32> = surfels.iter().map(|s| s.p.x).collect();
+    assert_eq!(places, [2.0, 1.0, 3.0]);
+}
+
+/// A point on the bounds is kept, one beyond them is dropped. Some seeds are near enough at once, and
+/// stay where they are.
+#[test]
+fn a_point_beyond_the_bounds_is_dropped() {
+    let count = |h: f32| on_floor(Vec3::ONE, 1.0, h, 100).len();
+    assert_eq!([0.0, -1e-6].map(count), [25, 7]);
+}
+
+/// "Target 0 gives none", and so does a scene with nothing in it.
+#[test]
+fn no_surfels() {
+    assert_eq!(on_floor(Vec3::ONE, 1.0, 0.5, 0).len(), 0);
+    assert_eq!(
+        placed(Vec::new(), Vec::new(), Vec3::ZERO, Vec3::ONE, 9).len(),
+        0
+    );
+}
+
+/// A capsule whose ends differ by the least float: at x up to 0.5 its distance is NaN, and just beyond
+/// that two of the normal's taps miss it.
+#[test]
+fn a_normal_that_is_no_number() {
+    let least = Vec3::new(f32::from_bits(1), 0.0, 0.0);
+    let short = alone(Prim::Capsule {
+        a: Vec3::ZERO,
+        b: least,
+        r: 0.8,
+    });
+    let (lo, hi) = (Vec3::new(0.5, -1.0, -1.0), Vec3::new(0.5004, 1.0, 1.0));
+    let surfels = placed(Vec::new(), vec![short], lo, hi, 4);
+    assert!(!surfels.is_empty());
+    for s in surfels {
+        assert!(s.n.x.is_nan());
+        assert_eq!([s.n.y, s.n.z], [0.0; 2]);
+    }
+}
+
+/// The area passes 1,000,000 in the largest bounds: the next entry then refuses with 5.
+#[test]
+fn an_area_over_1_000_000() {
+    let (lo, hi) = (Vec3::splat(-10_000.0), Vec3::splat(10_000.0));
+    let surfels = placed(vec![plane(Vec3::Y, 0.0)], Vec::new(), lo, hi, 1);
+    assert_eq!(surfels[0].area.to_bits(), 0x4EDC1425);
 }

@@ -4,6 +4,9 @@
 mod answers;
 mod cases;
 mod grid_refusals;
+mod placement_cases;
+mod placement_refusals;
+mod placements;
 mod queries;
 mod random;
 mod readings;
@@ -11,6 +14,7 @@ mod refusals;
 mod rooms;
 mod scene_cases;
 mod sheets;
+mod sites;
 mod solve_cases;
 mod solve_refusals;
 mod solves;
@@ -24,6 +28,7 @@ mod transfers;
 use cases::Case;
 use rooms::Room;
 use sheets::Sheet;
+use sites::Site;
 use std::path::Path;
 use std::{env, fs, io};
 use stores::Store;
@@ -54,6 +59,12 @@ fn main() -> io::Result<()> {
         &crates.join("replay_formfactor"),
         &transfer_cases::all(),
         |case| transfers::lines(&mut store, case),
+    )?;
+    let mut site = Site::new();
+    write(
+        &crates.join("replay_placement"),
+        &placement_cases::all(),
+        |case| placements::lines(&mut site, case),
     )
 }
 

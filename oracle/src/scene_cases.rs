@@ -49,19 +49,19 @@ pub fn plane(n: Vec3, h: f32) -> Shape {
     shape(2, &[n.x, n.y, n.z, h])
 }
 
-fn capsule(a: Vec3, b: Vec3, r: f32) -> Shape {
+pub fn capsule(a: Vec3, b: Vec3, r: f32) -> Shape {
     shape(3, &[a.x, a.y, a.z, b.x, b.y, b.z, r])
 }
 
-fn torus(c: Vec3, major: f32, minor: f32) -> Shape {
+pub fn torus(c: Vec3, major: f32, minor: f32) -> Shape {
     shape(4, &[c.x, c.y, c.z, major, minor])
 }
 
-fn cylinder(a: Vec3, b: Vec3, r: f32) -> Shape {
+pub fn cylinder(a: Vec3, b: Vec3, r: f32) -> Shape {
     shape(5, &[a.x, a.y, a.z, b.x, b.y, b.z, r])
 }
 
-fn cone(a: Vec3, b: Vec3, ra: f32, rb: f32) -> Shape {
+pub fn cone(a: Vec3, b: Vec3, ra: f32, rb: f32) -> Shape {
     shape(6, &[a.x, a.y, a.z, b.x, b.y, b.z, ra, rb])
 }
 
@@ -79,7 +79,7 @@ pub struct Room {
 
 impl Room {
     /// A room with these objects, without subtractions; their materials are 1, 2, 3 and so on.
-    fn of(shapes: &[Shape]) -> Room {
+    pub fn of(shapes: &[Shape]) -> Room {
         let mut room = Room::default();
         for (&base, mat) in shapes.iter().zip(1..) {
             room.add(base, &[], mat);
@@ -105,7 +105,7 @@ impl Room {
     }
 
     /// The same, with nothing else in the room.
-    fn with(base: Shape, subtracted: &[Shape]) -> Room {
+    pub fn with(base: Shape, subtracted: &[Shape]) -> Room {
         let mut room = Room::default();
         room.add(base, subtracted, 1);
         room

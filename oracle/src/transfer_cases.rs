@@ -17,6 +17,7 @@ use crate::scene_cases::rooms::{direction, point};
 use crate::scene_cases::{at, plane, sphere, Room};
 use crate::stores::{ClustersLent, RowsLent, Store, CLUSTERS, LINKS, STARTS, SURFELS};
 use crate::transfers::{self, ClustersTold, RowsTold};
+pub(crate) use cluster_limits::{ends, put};
 use interflect::Vec3;
 use std::collections::HashMap;
 
@@ -102,7 +103,7 @@ const UP: Vec3 = Vec3::new(0.0, 0.0, 1.0);
 const DOWN: Vec3 = Vec3::new(0.0, 0.0, -1.0);
 
 /// Normals along the axes, in the order of the buckets.
-const AXES: [Vec3; 6] = [
+pub const AXES: [Vec3; 6] = [
     Vec3::new(1.0, 0.0, 0.0),
     Vec3::new(-1.0, 0.0, 0.0),
     Vec3::new(0.0, 1.0, 0.0),
@@ -112,7 +113,7 @@ const AXES: [Vec3; 6] = [
 ];
 
 /// A room closed by six planes, this far from the middle.
-fn closed(size: f32) -> Room {
+pub fn closed(size: f32) -> Room {
     let mut room = Room::default();
     for (mat, n) in (0..).zip(AXES) {
         room.add(plane(n, -size), &[], mat);

@@ -48,7 +48,7 @@ pub fn rows(s: &Store, told: RowsTold) -> Option<u32> {
 const MOST: u32 = 400_000;
 
 /// 3, by what passes: "lo above hi on an axis or beyond 10,000 in size", "a NaN in any of these".
-fn bounds(lo: Vec3, hi: Vec3) -> bool {
+pub fn bounds(lo: Vec3, hi: Vec3) -> bool {
     let axes = [(lo.x, hi.x), (lo.y, hi.y), (lo.z, hi.z)];
     axes.iter()
         .all(|&(lo, hi)| coordinate(lo) && coordinate(hi) && lo <= hi)

@@ -225,13 +225,13 @@ fn sixteens(table: &[u32], at: usize, end: usize) -> Vec<Vec<u32>> {
     (at..end).step_by(16).map(line).collect()
 }
 
-fn floats_to(table: &[f32], end: usize) -> Vec<Vec<u32>> {
+pub fn floats_to(table: &[f32], end: usize) -> Vec<Vec<u32>> {
     let words: Vec<u32> = table.iter().copied().map(word).collect();
     sixteens(&words, 0, end)
 }
 
 /// Scratch is shown only where it is known.
-fn scratch(table: &[Scratch], at: usize, end: usize) -> Vec<Vec<u32>> {
+pub fn scratch(table: &[Scratch], at: usize, end: usize) -> Vec<Vec<u32>> {
     let words: Vec<u32> = table.iter().map(|w| w.unwrap_or(UNKNOWN)).collect();
     let lines = sixteens(&words, at, end);
     assert!(!lines.concat().contains(&UNKNOWN), "scratch from {at}");
@@ -245,7 +245,7 @@ fn words(v: Vec3) -> Vec<u32> {
     floats(v).map(word).to_vec()
 }
 
-fn floats(v: Vec3) -> [f32; 3] {
+pub fn floats(v: Vec3) -> [f32; 3] {
     [v.x, v.y, v.z]
 }
 

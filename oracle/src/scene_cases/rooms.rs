@@ -101,7 +101,7 @@ pub fn direction(random: &mut Random) -> Vec3 {
     }
 }
 
-fn drawn_shape(kind: u32, (c, size): (Vec3, f32), random: &mut Random) -> Shape {
+pub fn drawn_shape(kind: u32, (c, size): (Vec3, f32), random: &mut Random) -> Shape {
     let half = direction(random) * (size * random.between(0.4, 1.0));
     let (a, b) = (c - half, c + half);
     let mut part = |lo: f32, hi: f32| size * random.between(lo, hi);

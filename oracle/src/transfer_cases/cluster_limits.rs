@@ -80,7 +80,7 @@ fn bounds(script: &mut Script) {
 }
 
 /// Ends of an axis, and whether they pass.
-pub(super) fn ends() -> Vec<(f32, f32, bool)> {
+pub(crate) fn ends() -> Vec<(f32, f32, bool)> {
     let end = 10_000f32;
     vec![
         (-end, end, true),
@@ -100,7 +100,7 @@ pub(super) fn ends() -> Vec<(f32, f32, bool)> {
     ]
 }
 
-pub(super) fn put(v: &mut Vec3, axis: usize, x: f32) {
+pub(crate) fn put(v: &mut Vec3, axis: usize, x: f32) {
     match axis {
         0 => v.x = x,
         1 => v.y = x,
