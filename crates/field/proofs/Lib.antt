@@ -3,3 +3,4 @@ pub mod Chosen
 pub mod Subtracted
 pub mod Tests
 pub mod Readings
+pub mod Passed

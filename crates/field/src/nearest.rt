@@ -6,6 +6,7 @@ use tables::part_at;
 use tables::shape_at;
 use vector::Vec3;
 ghost use mathlib.Core.Path.{_≡_};
+ghost use Rattle.sdf.specs.Beyond.{far as shapeFar};
 ghost use Rattle.sdf.specs.Distance.{dist as shapeDist};
 ghost use Rattle.tables.specs.Tables.{shapeAt, partAt, sceneIn};
 ghost use Rattle.field.specs.Nearest.{partDist, partHit, nearer, nearestPart, distMat, dist};
@@ -58,7 +59,7 @@ pub fn dist(
     near.d
 }
 
-// The nearest of n parts and the best so far.
+// The nearest of n parts and the best so far; a part that is surely no nearer is passed over.
 fn nearest_part(
     kinds: &[u32],
     lengths: &[f32],
@@ -73,10 +74,20 @@ fn nearest_part(
     let mut j = 0;
     while j < n {
         let part = part_at(parts, j);
-        best = nearer(best, part_hit(kinds, lengths, p, part));
+        if !far_part(kinds, lengths, part, p, best.d) {
+            best = nearer(best, part_hit(kinds, lengths, p, part));
+        }
         j += 1;
     }
     best
+}
+
+// Whether a part is surely no nearer than best, as its base tells: what is subtracted never brings
+// it nearer.
+fn far_part(kinds: &[u32], lengths: &[f32], part: Part, p: Vec3, best: f32) -> bool
+    ensures { λ r. ⌜ r ≡ shapeFar (shapeAt (now (kinds .entry)) (now (lengths .entry)) (part .base)) p best ⌝ }
+{
+    shape_at(kinds, lengths, wide(part.base)).far(p, best)
 }
 
 // A part as what may be nearest.

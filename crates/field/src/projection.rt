@@ -7,7 +7,7 @@ ghost use mathlib.Core.Path.{_≡_};
 ghost use Rattle.vector.specs.Vector.{minus, scaled};
 ghost use Rattle.tables.specs.Tables.{sceneIn};
 ghost use Rattle.field.specs.Gradient.{normal};
-ghost use Rattle.field.specs.Projection.{confirmed, project};
+ghost use Rattle.field.specs.Projection.{project};
 
 // p moved onto the surface, where its distance falls below eps within ten tests; none where it does
 // not, where the distance is not finite, or where it is beyond diag.
@@ -40,17 +40,7 @@ pub fn project(
         );
         let a = float::abs(d);
         if a < eps {
-            return confirmed(
-                prims,
-                planes,
-                objects,
-                kinds,
-                lengths,
-                plane_parts,
-                object_parts,
-                q,
-                eps,
-            );
+            return Projected::On(q);
         }
         if !float::is_finite(d) {
             return Projected::None;
@@ -72,38 +62,6 @@ pub fn project(
         i += 1;
     }
     Projected::None
-}
-
-// The point, unless its distance is eps or more after all.
-fn confirmed(
-    prims: usize,
-    planes: usize,
-    objects: usize,
-    kinds: &[u32],
-    lengths: &[f32],
-    plane_parts: &[u32],
-    object_parts: &[u32],
-    p: Vec3,
-    eps: f32,
-) -> Projected
-    ensures { λ r. ⌜ r ≡ confirmed (sceneIn prims planes objects kinds lengths «plane_parts» «object_parts») eps p ⌝ }
-{
-    if float::abs(dist(
-        prims,
-        planes,
-        objects,
-        kinds,
-        lengths,
-        plane_parts,
-        object_parts,
-        p,
-    ))
-        >= eps
-    {
-        Projected::None
-    } else {
-        Projected::On(p)
-    }
 }
 
 // p moved against the normal there by the distance d.

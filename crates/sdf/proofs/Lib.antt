@@ -1,3 +1,4 @@
 -- What the definitions say.
 pub mod Ends
+pub mod Spared
 pub mod Readings

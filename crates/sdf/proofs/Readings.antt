@@ -1,16 +1,16 @@
--- What the definitions say: flat axes, points of NaN, and worked distances of each shape. That a capsule with equal ends is NaN is in Ends.antt. Assumes nothing.
+-- What the definitions say: flat axes, points of NaN, worked distances of each shape, and where `far` is sure. That a capsule with equal ends is NaN is in Ends.antt. Assumes nothing.
 use mathlib.Core.Path.{_≡_, refl}
 use mathlib.Core.Bool.{Bool, true, false}
 use mathlib.Core.List.{List, [], _∷_, _++_, map}
 use Prim.Native.Nat.{ℕ}
 use lib.IntN.{pos}
-use lib.Ieee.{Float, nan, binary32, isNan, neg, add, sub, mul, div, lt, ofInt, ofBits}
+use lib.Ieee.{Float, nan, binary32, isNan, neg, add, sub, mul, div, lt, le, ofInt, ofBits}
 use Rattle.float.specs.Arithmetic.{_-f_, _/f_, 0f}
 use Rattle.float.specs.Sign.{abs, signum}
 use Rattle.float.specs.Order.{greater, lesser, clamp}
 use Rattle.float.specs.Root.{squareRoot}
 use Rattle.vector.specs.declared.Vec3.{Vec3}
-use Rattle.vector.specs.Vector.{vec, dot, minus, scaled, absolutes, greaters, lengthOf}
+use Rattle.vector.specs.Vector.{vec, dot, minus, scaled, absolutes, greaters, lengthSquared, lengthOf}
 use Rattle.sdf.specs.declared.Shape.{Shape}
 use Rattle.sdf.specs.declared.Shape.the-variants.{Sphere, RoundBox, Plane, Capsule, Torus, Cylinder, Cone}
 use Rattle.sdf.specs.Axis.{tiny}
@@ -18,6 +18,7 @@ use Rattle.sdf.specs.Solids.{sphere, roundBox, plane, capsule, torus}
 use Rattle.sdf.specs.Cylinder.{cylinder}
 use Rattle.sdf.specs.Cone.{cone}
 use Rattle.sdf.specs.Distance.{dist}
+use Rattle.sdf.specs.Beyond.{far}
 
 -- ---- a flat axis: a cylinder and a cone are spheres around a
 
@@ -136,3 +137,20 @@ rows = plain ++ short ++ zeros ++ nans
 pub readings : map (λ (row : Shape × Vec3 × Float). dist (row .0) (row .1)) rows ≡ map (λ (row : Shape × Vec3 × Float). row .2) rows
 unfolding dist sphere roundBox plane capsule torus cylinder cone dot minus scaled absolutes greaters lengthOf abs signum greater lesser clamp squareRoot isNan neg add sub mul div lt ofInt ofBits
 readings = refl
+
+-- ---- where `far` is sure: a shape, a point, a distance and whether the shape is surely no nearer. Each of the first five is 9 away from its point.
+abbrev pub sure : List (Shape × Vec3 × Float × Bool)
+sure =
+    (Sphere (at 0 0 0) (whole 1), at 6 8 0, whole 8, true)
+    ∷ (Sphere (at 0 0 0) (whole 1), at 6 8 0, whole 9, false)
+    ∷ (RoundBox (at 0 0 0) (at 4 4 4) (whole 1), at 9 11 0, whole 8, true)
+    ∷ (Capsule (at 0 0 0) (at 0 2 0) (whole 1), at 6 1 8, whole 8, true)
+    ∷ (Plane (at 0 1 0) (whole 1), at 5 10 7, whole 8, false)
+    ∷ (RoundBox (at 0 0 0) (at 4 4 4) (whole 1), at 0 0 0, whole 8, false)
+    ∷ (Sphere (at 0 0 0) (whole 1), at 6 8 0, 0f, false)
+    ∷ (Sphere (at 0 0 0) (whole 1), nowhere, whole 8, false)
+    ∷ []
+
+pub sure-readings : map (λ (row : Shape × Vec3 × Float × Bool). far (row .0) (row .1) (row .2)) sure ≡ map (λ (row : Shape × Vec3 × Float × Bool). row .3) sure
+unfolding far dot minus scaled absolutes greaters lengthSquared abs greater clamp isNan neg add sub mul div lt le ofInt ofBits
+sure-readings = refl

@@ -4,3 +4,4 @@ pub mod Solids
 pub mod Cylinder
 pub mod Cone
 pub mod Distance
+pub mod Beyond

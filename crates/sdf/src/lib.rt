@@ -1,6 +1,7 @@
 // Seven shapes, and how far a point lies from each: above 0 outside, below 0 inside.
 //
 // Any shape and any point have an answer, NaN and the infinities among them.
+mod beyond;
 mod cone;
 mod cylinder;
 mod solids;
@@ -8,6 +9,7 @@ mod solids;
 use vector::Vec3;
 ghost use mathlib.Core.Path.{_≡_};
 ghost use Rattle.sdf.specs.Distance.{dist};
+ghost use Rattle.sdf.specs.Beyond.{far};
 
 // A shape and its lengths.
 pub enum Shape {
@@ -40,6 +42,21 @@ impl Shape {
             Shape::Torus { c, major, minor } => solids::torus(c, major, minor, p),
             Shape::Cylinder { a, b, r } => cylinder::cylinder(a, b, r, p),
             Shape::Cone { a, b, ra, rb } => cone::cone(a, b, ra, rb, p),
+        }
+    }
+    // Whether the shape is surely no nearer to p than best, found with no root: where it is true, best
+    // is above 0 and no more than the distance. False says nothing.
+    pub fn far(self, p: Vec3, best: f32) -> bool
+        ensures { λ s. ⌜ s ≡ far self p best ⌝ }
+    {
+        match self {
+            Shape::Sphere { c, r } => beyond::sphere(c, r, p, best),
+            Shape::RoundBox { c, b, r } => beyond::round_box(c, b, r, p, best),
+            Shape::Plane { n, h } => false,
+            Shape::Capsule { a, b, r } => beyond::capsule(a, b, r, p, best),
+            Shape::Torus { c, major, minor } => false,
+            Shape::Cylinder { a, b, r } => false,
+            Shape::Cone { a, b, ra, rb } => false,
         }
     }
 }

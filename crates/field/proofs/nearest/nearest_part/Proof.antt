@@ -1,11 +1,13 @@
--- `field::nearest::nearest_part` meets its contract. The loop has compared the first j parts. Assumes nothing.
+-- `field::nearest::nearest_part` meets its contract. The loop has compared the first j parts; one passed over would have changed nothing. Assumes nothing.
 use Prim.Native.Nat.{_-_, _≤_}
+use Rattle.field.proofs.Passed.{best-asked, best-kept}
 use Rattle.field.specs.Nearest.{partHit, nearer, nearestPart}
 use Rattle.tables.specs.Tables.{shapeAt, partAt}
 use Rattle.vector.proofs.Sums.{fold-none, fold-more}
 use Rattle.vector.specs.Fold.{fold}
 use borrow.Author.Needs.{needs}
-use mathlib.Core.Path.{_≡_, refl}
+use mathlib.Core.Logic.{inl, inr}
+use mathlib.Core.Path.{_≡_, refl, ap}
 use native.Mathlib.Omega.{arith}
 use Rattle.field.proofs.nearest.nearest_part.Statement.{statement}
 use Rattle.field.proofs.nearest.nearest_part.Tie as tie
@@ -21,7 +23,13 @@ loop-holds : tie.Need-loop-holds Inv-loop μ-loop
 loop-holds c = (search needs, fold-none _ _ _ refl)
 
 loop-again : tie.Need-loop-again Inv-loop μ-loop
-loop-again c = (search needs, fold-more _ _ _ _ (c .before .before .before .before .loop .inv .1) (rw (c .before .part-hit .ensures, c .before .before .part-at .ensures)) (c .nearer .ensures))
+loop-again c =
+    let q = c .before in
+    let lp = q .before .before .before in (
+      search needs,
+      fold-more _ _ _ _ (lp .loop .inv .1) (ap (partHit _ _) (q .before .part-at .ensures))
+          (elim (c .if1 .came) [ inl w ↦ best-asked _ _ _ _ (w .1 .ensures) (w .2 .ensures) (w .3) | inr w ↦ best-kept _ _ _ _ (q .far-part .ensures) (w .0 .left) (w .1) ]),
+    )
 
 returns : tie.Need-returns Inv-loop μ-loop
 unfolding nearestPart
@@ -31,4 +39,4 @@ returns c =
     rw e at (lp .loop .inv .1)
 
 pub nearest-part-spec : {M : Type 1} → statement M
-nearest-part-spec = tie.close (tie.spec Inv-loop μ-loop loop-holds (λ c κs. search needs) (λ c κs. search needs) (λ c κs. search needs) (λ c. search needs) (λ c. search needs) loop-again returns)
+nearest-part-spec = tie.close (tie.spec Inv-loop μ-loop loop-holds (λ c κs. search needs) (λ c κs. search needs) (λ c κs. search needs) (λ c κs. search needs) (λ c. search needs) (λ c. search needs) loop-again returns)

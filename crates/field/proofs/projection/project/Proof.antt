@@ -23,10 +23,10 @@ loop-holds c = (omega arith, refl)
 
 returns : tie.Need-returns Inv-loop μ-loop
 returns c =
-    let d = c .before .before .before in
+    let d = c .before .before in
     let lp = d .before .before in
-    rw (c .confirmed .ensures, lp .loop .inv .1)
-    (project-near _ _ _ (9 - lp .loop .i) _ _ _ _ (omega (arith, d .before, lp)) (d .dist .ensures) (c .before .before .abs .ensures) (c .before .if1 .taken))
+    rw (lp .loop .inv .1)
+    (project-near _ _ _ (9 - lp .loop .i) _ _ _ _ (omega (arith, d .before, lp)) (d .dist .ensures) (c .before .abs .ensures) (c .if1 .taken))
 
 returns-2 : tie.Need-returns-2 Inv-loop μ-loop
 returns-2 c =
@@ -58,4 +58,4 @@ returns-4 c =
     rw (lp .loop .inv .1, e) (project-end _ _ _ _)
 
 pub project-spec : {M : Type 1} → statement M
-project-spec = tie.close (tie.spec Inv-loop μ-loop loop-holds (λ c κs. search needs) (λ c κs. search needs) (λ c κs. search needs) returns (λ c κs. search needs) returns-2 returns-3 (λ c κs. search needs) (λ c. search needs) (λ c. search needs) loop-again returns-4)
+project-spec = tie.close (tie.spec Inv-loop μ-loop loop-holds (λ c κs. search needs) (λ c κs. search needs) returns (λ c κs. search needs) returns-2 returns-3 (λ c κs. search needs) (λ c. search needs) (λ c. search needs) loop-again returns-4)
