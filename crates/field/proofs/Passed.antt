@@ -37,5 +37,5 @@ module _ (shape : ℕ → Shape) (p : Vec3) (part : Part) where
   pub best-asked : (best : DistHit) {new near t : DistHit} → new ≡ partHit shape p part → near ≡ nearer best new → t ≡ near → t ≡ nearer best (partHit shape p part)
   best-asked best e n g = rw (g, n, e)
 
-  pub best-kept : (best : DistHit) {t : DistHit} {r : Bool} → r ≡ shapeFar (shape (part .base)) p (best .d) → not r ≡ false → t ≡ best → t ≡ nearer best (partHit shape p part)
-  best-kept best {t} {r} e h g = g ∙ sym (passed-over best (sym e ∙ not-false r h))
+  pub best-kept : (best : DistHit) {t : DistHit} {r : Bool} {base : Shape} → base ≡ shape (part .base) → r ≡ shapeFar base p (best .d) → not r ≡ false → t ≡ best → t ≡ nearer best (partHit shape p part)
+  best-kept best {t} {r} b e h g = g ∙ sym (passed-over best (rw (← b) (sym e ∙ not-false r h)))

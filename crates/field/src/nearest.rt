@@ -1,12 +1,12 @@
 // What is nearest to a point.
 use crate::DistHit;
 use accept::wide;
+use sdf::Shape;
 use tables::Part;
 use tables::part_at;
 use tables::shape_at;
 use vector::Vec3;
 ghost use mathlib.Core.Path.{_≡_};
-ghost use Rattle.sdf.specs.Beyond.{far as shapeFar};
 ghost use Rattle.sdf.specs.Distance.{dist as shapeDist};
 ghost use Rattle.tables.specs.Tables.{shapeAt, partAt, sceneIn};
 ghost use Rattle.field.specs.Nearest.{partDist, partHit, nearer, nearestPart, distMat, dist};
@@ -74,28 +74,22 @@ fn nearest_part(
     let mut j = 0;
     while j < n {
         let part = part_at(parts, j);
-        if !far_part(kinds, lengths, part, p, best.d) {
-            best = nearer(best, part_hit(kinds, lengths, p, part));
+        let base = shape_at(kinds, lengths, wide(part.base));
+        if !base.far(p, best.d) {
+            best = nearer(best, part_hit(kinds, lengths, p, part, base));
         }
         j += 1;
     }
     best
 }
 
-// Whether a part is surely no nearer than best, as its base tells: what is subtracted never brings
-// it nearer.
-fn far_part(kinds: &[u32], lengths: &[f32], part: Part, p: Vec3, best: f32) -> bool
-    ensures { λ r. ⌜ r ≡ shapeFar (shapeAt (now (kinds .entry)) (now (lengths .entry)) (part .base)) p best ⌝ }
-{
-    shape_at(kinds, lengths, wide(part.base)).far(p, best)
-}
-
-// A part as what may be nearest.
-fn part_hit(kinds: &[u32], lengths: &[f32], p: Vec3, part: Part) -> DistHit
+// A part, whose base is this shape, as what may be nearest.
+fn part_hit(kinds: &[u32], lengths: &[f32], p: Vec3, part: Part, base: Shape) -> DistHit
+    requires { ⌜ base ≡ shapeAt (now kinds) (now lengths) (part .base) ⌝ }
     ensures { λ r. ⌜ r ≡ partHit (shapeAt (now (kinds .entry)) (now (lengths .entry))) p part ⌝ }
 {
     DistHit {
-        d: part_dist(kinds, lengths, part, p),
+        d: part_dist(kinds, lengths, part, base, p),
         mat: part.mat,
     }
 }
@@ -107,13 +101,14 @@ fn nearer(best: DistHit, new: DistHit) -> DistHit
     if new.d < best.d { new } else { best }
 }
 
-// The distance to a part: its base, less what is subtracted.
-fn part_dist(kinds: &[u32], lengths: &[f32], part: Part, p: Vec3) -> f32
+// The distance to a part: its base, which is this shape, less what is subtracted.
+fn part_dist(kinds: &[u32], lengths: &[f32], part: Part, base: Shape, p: Vec3) -> f32
+    requires { ⌜ base ≡ shapeAt (now kinds) (now lengths) (part .base) ⌝ }
     ensures { λ r. ⌜ r ≡ partDist (shapeAt (now (kinds .entry)) (now (lengths .entry))) part p ⌝ }
 {
     let first = wide(part.first);
     let many = wide(part.many);
-    let mut d = prim_dist(kinds, lengths, wide(part.base), p);
+    let mut d = base.dist(p);
     let mut i = 0;
     while i < many {
         d = float::max(d, -prim_dist(kinds, lengths, first + i, p));

@@ -9,4 +9,4 @@ unfolding partHit
 returns c = rw (c .part-dist .ensures)
 
 pub part-hit-spec : {M : Type 1} → statement M
-part-hit-spec = tie.close (tie.spec (λ c κs. search needs) returns)
+part-hit-spec = tie.close (tie.spec (λ c κs. c .before .before .pre) returns)
