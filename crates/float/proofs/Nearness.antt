@@ -38,14 +38,14 @@ place m (negsuc a) h = (
     whole g = omega arith
 
 pub record Units (x : Float) : Type 0 where
-  m : ℕ
-  j : ℕ
-  some : 0 < m
-  few : m < 2 ^ 24
-  is : HasValue x false (m * 2 ^ j) U
-  under : m * 2 ^ j < 2 ^ 277
+  pub m : ℕ
+  pub j : ℕ
+  pub some : 0 < m
+  pub few : m < 2 ^ 24
+  pub is : HasValue x false (m * 2 ^ j) U
+  pub under : m * 2 ^ j < 2 ^ 277
 
-units-of : (x : Float) → T (fits binary32 x) → T (positive x) → Units x
+pub units-of : (x : Float) → T (fits binary32 x) → T (positive x) → Units x
 unfolding fits
 units-of nan F p = absurd p
 units-of (inf s) F p = absurd p

@@ -4,24 +4,24 @@
 use mathlib.Core.Path.{_≡_, refl, sym, ap, _∙_, subst}
 use mathlib.Core.Logic.{inl, inr}
 use mathlib.Core.Bool.{Bool, true, false, _&&_, _||_, Bool·beq, cond, true≢false, false≢true}
-use Prim.Native.Nat.{ℕ, zero, suc, _+_, _-_, _*_, _%_, _^_, _≤_, _<_, zero-le}
-use native.Mathlib.Nat.{le-refl, le-trans, le-of-lt, le-of-eq, lt-of-le-of-lt, lt-of-lt-of-le, lt-irrefl, eq-zero-or-pos, zero-mul, mul-one, mul-comm, mul-assoc, mul-left-comm, mul-right-comm, mul-mul-mul-comm, mul-le-mul, mul-le-mul-right, le-of-mul-le-mul-right, lt-of-mul-lt-mul-right, mul-lt-mul-of-pos-right, mul-pos, mul-sub}
+use Prim.Native.Nat.{ℕ, zero, _+_, _-_, _*_, _^_, _≤_, _<_, zero-le}
+use native.Mathlib.Nat.{le-refl, le-trans, le-of-lt, le-of-eq, lt-of-le-of-lt, lt-of-lt-of-le, lt-irrefl, eq-zero-or-pos, zero-mul, mul-one, mul-comm, mul-assoc, mul-left-comm, mul-right-comm, mul-mul-mul-comm, mul-le-mul, mul-le-mul-right, le-of-mul-le-mul-right, mul-pos, mul-sub}
 use native.Mathlib.Omega.{arith}
-use lib.IntN.{ℤ, pos, negsuc}
-use lib.Dec.{T, leb, ltb, eqb, leb→le, ltb→lt, lt→ltb, eqb→eq}
-use lib.Pow.{pow-pos, pow-add}
+use lib.IntN.{ℤ}
+use lib.Dec.{T, ltb, eqb, ltb→lt, lt→ltb, eqb→eq}
+use lib.Pow.{pow-pos}
 use lib.Ieee.{Float, nan, inf, fin, binary32, up, down, round, sum, neg, add, sub, mul, lt, eq, le, fits, isNan, below, level, ofBits}
 use lib.Ieee.Bits.{is-true}
 use lib.Ieee.Exact.{HasValue, round-exact}
-use lib.Ieee.Fits.{up-pos, down-pos, and-l, and-r, eq→eqb, add-fits, mul-fits}
+use lib.Ieee.Fits.{up-pos, and-l, and-r, eq→eqb, add-fits, mul-fits}
 use lib.Ieee.Order.{transfer, le-of-values, round-mono}
 use lib.Ieee.Positive.{num, den, positive, above, den-pos, own-value, value→cross, first-pos, le→cross, le-trans-positive, above-of-le, through, mul-at}
 use borrow.Author.Tests.{le-ltb}
 use Rattle.float.specs.Arithmetic.{_+f_, _-f_, _*f_, 0f}
 use Rattle.float.specs.Order.{greater, lesser}
 use Rattle.float.specs.Root.{squareRoot}
-use Rattle.float.proofs.Numbers.{here-or-on, sq-mul, pow-le-cancel}
-use Rattle.float.proofs.Nearness.{nearest-root}
+use Rattle.float.proofs.Numbers.{here-or-on, sq-mul}
+use Rattle.float.proofs.Nearness.{units-of, nearest-root}
 use Rattle.vector.specs.declared.Vec3.{Vec3}
 use Rattle.vector.specs.Vector.{vec, zeroVec, minus, absolutes, greaters, lengthSquared, lengthOf}
 use Rattle.sdf.specs.declared.Shape.{Shape}
@@ -147,36 +147,10 @@ le-greater best (fin s m e) x p h = picked best (fin s m e) x (above-zero best p
 
 -- ---- a value that fits is its own rounding
 
--- in units of the smallest value, m * 2 ^ e is m * 2 ^ j
-place : (m : ℕ) (e : ℤ) → down e ≤ 2 ^ 149 → (j : ℕ) × (m * up e * 2 ^ 149 ≡ m * 2 ^ j * down e)
-place m (pos a) h = (a + 149, mul-assoc m (2 ^ a) (2 ^ 149) ∙ ap (λ (x : ℕ). m * x) (sym (pow-add 2 a 149)) ∙ sym (mul-one (m * 2 ^ (a + 149))))
-place m (negsuc a) h = (
-  149 - suc a,
-  ap (λ (x : ℕ). x * 2 ^ 149) (mul-one m)
-      ∙ ap (λ (x : ℕ). m * x) (ap (λ (x : ℕ). 2 ^ x) (whole (pow-le-cancel h)) ∙ pow-add 2 (149 - suc a) (suc a))
-      ∙ sym (mul-assoc m (2 ^ (149 - suc a)) (2 ^ suc a)),
-)
-  where
-    whole : suc a ≤ 149 → 149 ≡ 149 - suc a + suc a
-    whole g = omega arith
-
 unrounded : (x : Float) → T (fits binary32 x) → T (positive x) → HasValue (round binary32 false (num x) (den x)) false (num x) (den x)
-unfolding fits
-unrounded nan F p = absurd p
-unrounded (inf s) F p = absurd p
-unrounded (fin true m e) F p = absurd p
-unrounded (fin false zero e) F p = absurd (lt-irrefl 0 (ltb→lt 0 0 p))
-unrounded (fin false (suc m) e) F p =
-    let a : Bool = eqb (suc m % 2) 1 in
-    let b : Bool = ltb (suc m) (2 ^ 24) in
-    let c : Bool = leb (down e) (2 ^ 149) in
-    let d : Bool = ltb (suc m * up e) (2 ^ 128 * down e) in
-    let at = place (suc m) e (leb→le (down e) (2 ^ 149) (and-r (a && b) c (and-l (a && b && c) d F))) in
-    let top : suc m * up e < 2 ^ 128 * down e = ltb→lt (suc m * up e) (2 ^ 128 * down e) (and-r (a && b && c) d F) in
-    let few : suc m < 2 ^ 24 = ltb→lt (suc m) (2 ^ 24) (and-r a b (and-l (a && b) c (and-l (a && b && c) d F))) in
-    let under : suc m * 2 ^ at .0 < 2 ^ 277 =
-    lt-of-mul-lt-mul-right (down e) (lt-of-le-of-lt (le-of-eq (sym (at .1))) (lt-of-lt-of-le (mul-lt-mul-of-pos-right top (pow-pos 149)) (le-of-eq (mul-right-comm (2 ^ 128) (down e) (2 ^ 149))))) in
-    round-exact binary32 false (suc m * up e) (down e) (suc m) (at .0) (down-pos e) few under (at .1)
+unrounded x F p =
+    let g = units-of x F p in
+    round-exact binary32 false (num x) (den x) (g .m) (g .j) (den-pos x) (g .few) (g .under) (value→cross x (g .m * 2 ^ g .j) (2 ^ 149) (g .is))
 
 -- so it is no more than the rounding of any fraction that it is no more than
 le-round : (x : Float) (a c : ℕ) → T (fits binary32 x) → T (positive x) → 0 < c → num x * c ≤ a * den x → T (le x (round binary32 false a c))

@@ -1,6 +1,5 @@
 -- `field::nearest::part_hit` meets its contract. It puts the part's material to its distance. Assumes nothing.
 use Rattle.field.specs.Nearest.{partHit}
-use borrow.Author.Needs.{needs}
 use Rattle.field.proofs.nearest.part_hit.Statement.{statement}
 use Rattle.field.proofs.nearest.part_hit.Tie as tie
 
