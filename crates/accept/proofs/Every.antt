@@ -1,12 +1,13 @@
 -- Several tests as one: one test more at a time, and what each says where all held. Assumes nothing.
-use mathlib.Core.Bool.{Bool, true, _&&_, and-eq-true-iff}
+use mathlib.Core.Bool.{Bool, true, false, _&&_, and-eq-true-iff}
 use mathlib.Core.List.{List, [], _∷_}
 use mathlib.Core.Logic.{⊎-elim}
-use mathlib.Core.Path.{_≡_, refl}
+use mathlib.Core.Path.{_≡_, refl, sym, _∙_}
 use Prim.Native.Nat.{ℕ, zero, suc, _+_, _<_}
 use native.Mathlib.Nat.{eq-or-lt-of-le}
 use native.Mathlib.Numerals.{add-one}
 use native.Mathlib.Omega.{arith}
+use Rattle.float.proofs.Signs.{clash}
 use Rattle.accept.specs.Every.{every, conj, conjFrom}
 
 -- a loop that makes the tests starts with true, and puts one test more to those made
@@ -31,6 +32,32 @@ pub every-all : (f : ℕ → Bool) (n : ℕ) → ((i : ℕ) → i < n → f i �
 unfolding every
 every-all f zero h = refl
 every-all f (suc n) h = rw (every-all f n (λ i k. h i (omega arith)), h n (omega arith))
+
+-- a test that fails for one of n
+pub every-fails : (f : ℕ → Bool) (n i : ℕ) → i < n → f i ≡ false → every f n ≡ false
+every-fails f n i h e = by-test (every f n) refl
+  where
+    by-test : (t : Bool) → every f n ≡ t → every f n ≡ false
+    by-test true q = clash (sym (every-at f n q i h) ∙ e)
+    by-test false q = q
+
+-- where not every one of n tests holds, one fails
+pub record Failing (f : ℕ → Bool) (n : ℕ) : Type 0 where
+  pub place : ℕ
+  pub below : place < n
+  pub fails : f place ≡ false
+
+pub one-fails : (f : ℕ → Bool) (n : ℕ) → every f n ≡ false → Failing f n
+unfolding every
+one-fails f zero e = clash e
+one-fails f (suc n) e = by-test (f n) refl (every f n) refl (one-fails f n)
+  where
+    by-test : (t : Bool) → f n ≡ t → (u : Bool) → every f n ≡ u → (every f n ≡ false → Failing f n) → Failing f (suc n)
+    by-test false q u r before = record { place = n; below = omega arith; fails = q }
+    by-test true q false r before =
+        let w = before r in
+        record { place = w .place; below = omega (arith, w .below); fails = w .fails }
+    by-test true q true r before = clash (rw (r, q) at e)
 
 -- only the first n tests count
 pub every-same : (f g : ℕ → Bool) (n : ℕ) → ((i : ℕ) → i < n → f i ≡ g i) → every f n ≡ every g n

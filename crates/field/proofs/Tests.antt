@@ -15,15 +15,6 @@ use Rattle.field.specs.Nearest.{dist}
 use Rattle.field.specs.Gradient.{normal}
 use Rattle.field.specs.Projection.{confirmed, moved, projectFrom}
 
--- a test that is turned round
-pub not-true : (b : Bool) → not b ≡ true → b ≡ false
-not-true true h = clash (sym h)
-not-true false h = refl
-
-pub not-false : (b : Bool) → not b ≡ false → b ≡ true
-not-false true h = refl
-not-false false h = clash h
-
 -- what is less is not at least
 pub lt-not-le : (x y : Float) → lt x y ≡ true → le y x ≡ false
 lt-not-le x y h = by _ refl

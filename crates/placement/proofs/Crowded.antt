@@ -3,16 +3,15 @@ use mathlib.Core.Bool.{Bool, true, false, not, _&&_, and-eq-true-iff}
 use mathlib.Core.List.{[], _∷_}
 use mathlib.Core.Logic.{inl, inr}
 use mathlib.Core.Path.{_≡_, refl, sym, ap, _∙_}
-use Prim.Native.Nat.{ℕ, zero, suc, _+_, _-_, _<_, _≤_}
+use Prim.Native.Nat.{ℕ, _+_, _-_, _<_, _≤_}
 use native.Mathlib.Nat.{eq-or-lt-of-le}
 use native.Mathlib.Omega.{arith}
-use borrow.Author.Tests.{eqb-true, eq-eqb, leb-true, le-leb}
+use borrow.Author.Tests.{not-false, eqb-true, eq-eqb, leb-true, le-leb}
 use lib.Dec.{eqb, leb}
 use Rattle.float.specs.Arithmetic.{_/f_, 1f}
 use Rattle.float.proofs.Signs.{clash}
 use Rattle.vector.specs.declared.Vec3.{Vec3}
-use Rattle.accept.specs.Every.{every}
-use Rattle.accept.proofs.Every.{every-at, every-all, conj-each}
+use Rattle.accept.proofs.Every.{every-at, every-all, every-fails, one-fails, conj-each}
 use Rattle.grid.specs.declared.Block.{Block}
 use Rattle.grid.specs.declared.Cell.{Cell}
 use Rattle.grid.specs.declared.Dims.{Dims}
@@ -22,36 +21,9 @@ use Rattle.grid.specs.Rows.{blockNear, rowCell}
 use Rattle.grid.specs.Visiting.{firstNear, countNear}
 use Rattle.grid.proofs.Numbered.{dims-bounded, cell-within, cells-few}
 use Rattle.grid.proofs.Around.{number, number-own, number-along, near-in, inside, first-row, row-end}
-use Rattle.field.proofs.Tests.{not-false}
 use Rattle.seeds.specs.declared.Spacing.{Spacing}
 use Rattle.placement.specs.Kept.{dimsIn, cellIn, beside, neighbouring, closer, tooClose, free}
 use Rattle.placement.specs.Chains.{keyOf, vacant}
-
--- a test that fails for one of n
-every-fails : (f : ℕ → Bool) (n i : ℕ) → i < n → f i ≡ false → every f n ≡ false
-every-fails f n i h e = by-test (every f n) refl
-  where
-    by-test : (t : Bool) → every f n ≡ t → every f n ≡ false
-    by-test true q = clash (sym (every-at f n q i h) ∙ e)
-    by-test false q = q
-
--- where not every one of n tests holds, one fails
-pub record Failing (f : ℕ → Bool) (n : ℕ) : Type 0 where
-  pub place : ℕ
-  pub below : place < n
-  pub fails : f place ≡ false
-
-one-fails : (f : ℕ → Bool) (n : ℕ) → every f n ≡ false → Failing f n
-unfolding every
-one-fails f zero e = clash e
-one-fails f (suc n) e = by-test (f n) refl (every f n) refl (one-fails f n)
-  where
-    by-test : (t : Bool) → f n ≡ t → (u : Bool) → every f n ≡ u → (every f n ≡ false → Failing f n) → Failing f (suc n)
-    by-test false q u r before = record { place = n; below = omega arith; fails = q }
-    by-test true q false r before =
-        let w = before r in
-        record { place = w .place; below = omega (arith, w .below); fails = w .fails }
-    by-test true q true r before = clash (rw (r, q) at e)
 
 -- on an axis, the cells near c are those beside it
 beside-near : (c x dim : ℕ) → x < countNear c 1 dim → beside (firstNear c 1 + x) c ≡ true

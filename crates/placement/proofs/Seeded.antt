@@ -10,10 +10,10 @@ use native.Mathlib.Omega.{arith}
 use borrow.Author.Tests.{lt-ltb, le-ltb}
 use lib.Ieee.{Float}
 use lib.ListN.{length, drop}
-use lib.Seq.{drop-drop}
 use Rattle.vector.specs.declared.Vec3.{Vec3}
 use Rattle.vector.specs.Flat.{vecAt, putAt, written, filled}
-use Rattle.vector.proofs.Replaced.{rest-kept, written-none, written-put, written-same, at-written, length-filled}
+use Rattle.vector.proofs.Replaced.{filled-past, written-none, written-put, written-same, at-written, length-filled}
+use Rattle.vector.proofs.Stored.{past-later}
 use Rattle.accept.proofs.Every.{every-same}
 use Rattle.grid.specs.Cells.{cells}
 use Rattle.tables.specs.Tables.{Scene}
@@ -26,10 +26,6 @@ use Rattle.placement.specs.Chains.{keyOf, Chains, tried, pointsLeft}
 use Rattle.placement.specs.Needs.{Held}
 use Rattle.placement.proofs.Chained.{chained-none}
 use Rattle.placement.proofs.Points.{length-more, point-before, point-last}
-
--- zeros at the first places leave the rest
-filled-past : (n : ℕ) (l : List ℕ) → drop n (filled (λ c. 0) n l) ≡ drop n l
-filled-past n l = let e : 1 * n ≡ n = omega arith in rw e at (rest-kept 1 (λ i. 0 ∷ []) (λ i. refl) n n l (omega arith))
 
 -- scratch whose cells were emptied
 module _ (s : Spacing) (target m : ℕ) {p : List Float} {head next : List ℕ} (w : Held s target p head next) (l : List ℕ) (k : m ≡ cells (dimsIn s))
@@ -45,7 +41,7 @@ module _ (s : Spacing) (target m : ℕ) {p : List Float} {head next : List ℕ} 
       record { few = w .few; points = w .points; celled = omega (arith, q, w .celled); linked = w .linked }
 
   pub emptied-past : drop (cells (dimsIn s)) l ≡ drop (cells (dimsIn s)) head
-  emptied-past = ap (drop (cells (dimsIn s))) emptied ∙ filled-past (cells (dimsIn s)) head
+  emptied-past = ap (drop (cells (dimsIn s))) emptied ∙ filled-past (λ c. 0) (cells (dimsIn s)) head
 
 -- room is a matter of the first n points alone
 pub free-same : (s : Spacing) (f g : ℕ → Vec3) (n : ℕ) (p : Vec3) → ((j : ℕ) → j < n → f j ≡ g j) → free s f n p ≡ free s g n p
@@ -92,12 +88,6 @@ module _ (s : Spacing) (target : ℕ) (ps : List Vec3) (p₀ : List Float) {coun
           → Stepped (keptWith s target ps (On v)) (tried s count p (On v) .0) (tried s count p (On v) .1)
       by-test true g = rw (g, sym (room-as v) ∙ g, lt-ltb (length ps) target (omega arith)) (more v)
       by-test false g = rw (g, sym (room-as v) ∙ g, lt-ltb (length ps) target (omega arith)) same
-
--- what lies past a place lies past any later one
-past-later : {A : Type 0} (j k : ℕ) (l m : List A) → j ≤ k → drop j l ≡ drop j m → drop k l ≡ drop k m
-past-later {A} j k l m h e =
-    let f : k ≡ j + (k - j) = omega arith in
-    ap (λ (i : ℕ). drop i l) f ∙ sym (drop-drop (k - j) j l) ∙ ap (drop (k - j)) e ∙ drop-drop (k - j) j m ∙ sym (ap (λ (i : ℕ). drop i m) f)
 
 module _ (scene : Scene) (s : Spacing) (target : ℕ) where
   abbrev keep : ℕ → List Vec3

@@ -6,7 +6,7 @@ use mathlib.Core.Path.{_≡_, refl, sym, ap, _∙_}
 use Prim.Native.Nat.{ℕ, zero, suc, _+_, _<_, _≤_}
 use native.Mathlib.Nat.{eq-or-lt-of-le}
 use native.Mathlib.Omega.{arith}
-use borrow.Author.Tests.{ltb-true}
+use borrow.Author.Tests.{not-true, ltb-true}
 use lib.Dec.{ltb}
 use lib.Ieee.{binary32, ofBits, lt}
 use lib.ListN.{length}
@@ -18,7 +18,6 @@ use Rattle.tables.specs.Tables.{Scene}
 use Rattle.field.specs.declared.Projected.{Projected}
 use Rattle.field.specs.declared.Projected.the-variants.{On, None}
 use Rattle.field.specs.Nearest.{dist}
-use Rattle.field.proofs.Tests.{not-true}
 use Rattle.seeds.specs.declared.Spacing.{Spacing}
 use Rattle.seeds.specs.Seeds.{outside, landed}
 use Rattle.seeds.proofs.Surface.{landed-within}

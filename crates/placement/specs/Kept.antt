@@ -44,11 +44,11 @@ neighbouring a b = conj (beside (a .x) (b .x) ∷ beside (a .y) (b .y) ∷ besid
 unfoldable pub closer : Spacing → Vec3 → Vec3 → Bool
 closer s p q = lt (lengthSquared (minus q p)) (s .«d_min» *f s .«d_min»)
 
--- q keeps p out
+-- q is too close to p: its cell is a neighbour of p's or the same, and it is closer than the least distance
 unfoldable pub tooClose : Spacing → Vec3 → Vec3 → Bool
 tooClose s p q = neighbouring (cellIn s q) (cellIn s p) && closer s p q
 
--- none of n points keeps p out
+-- none of n points is too close to p
 unfoldable pub free : Spacing → (ℕ → Vec3) → ℕ → Vec3 → Bool
 free s at n p = every (λ j. not (tooClose s p (at j))) n
 
@@ -56,7 +56,7 @@ free s at n p = every (λ j. not (tooClose s p (at j))) n
 abbrev pub pointAt : List Vec3 → ℕ → Vec3
 pointAt ps i = getD ps i zeroVec
 
--- the points kept so far and where the next seed landed: it is kept after them while they are fewer than the target, if none of them keeps it out
+-- the points kept so far and where the next seed landed: it is kept after them while they are fewer than the target, if none of them is too close
 unfoldable pub keptWith : Spacing → ℕ → List Vec3 → Projected → List Vec3
 keptWith s target ps None = ps
 keptWith s target ps (On p) = cond (ltb (length ps) target && free s (pointAt ps) (length ps) p) (ps ++ (p ∷ [])) ps

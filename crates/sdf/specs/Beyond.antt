@@ -45,7 +45,7 @@ farCapsule a b r p best =
     let h = clamp (dot pa ba /f dot ba ba) 0f 1f in
     beyond (lengthSquared (minus pa (scaled ba h))) r best
 
--- whether a shape is surely no nearer to p than best; false where that would take as long as its distance
+-- whether a shape is surely no nearer to p than best; false for the others, of which it is not asked
 unfoldable pub far : Shape → Vec3 → Float → Bool
 unfolding farSphere farBox farCapsule
 far (Sphere c r) p best = farSphere c r p best

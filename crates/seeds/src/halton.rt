@@ -5,7 +5,7 @@ ghost use Prim.Native.Nat.{_≤_, _^_};
 ghost use Rattle.vector.specs.Halton.{radicalInverse};
 ghost use Rattle.seeds.specs.Seeds.{seed};
 
-// The point number i of the Halton sequence in bases 2, 3 and 5, each component from 0 to 1.
+// The point number i of the Halton sequence in bases 2, 3 and 5.
 pub fn seed(i: u32) -> Vec3
     ensures { λ r. ⌜ r ≡ seed i ⌝ }
 {

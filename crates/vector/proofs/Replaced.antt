@@ -207,6 +207,10 @@ module _ {A : Type 0} (g : ℕ → A) where
       ∙ ap (λ (m : List A). getD m 0 d) (rest-kept 1 one narrow n i l h)
       ∙ sym (place l (1 * i) 0 i d (omega arith))
 
+  -- the elements past those are as they were
+  pub filled-past : (n : ℕ) (l : List A) → drop n (filled g n l) ≡ drop n l
+  filled-past n l = let e : 1 * n ≡ n = omega arith in rw e at (rest-kept 1 one narrow n n l (omega arith))
+
 -- a list stored over another of its length is that list
 pub filled-whole : {A : Type 0} (l m : List A) (d : A) → length m ≡ length l → filled (λ k. getD l k d) (length l) m ≡ l
 filled-whole l m d e =

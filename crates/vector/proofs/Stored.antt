@@ -7,7 +7,7 @@ use native.Mathlib.Nat.{add-zero, add-suc, zero-add, eq-or-lt-of-le}
 use native.Mathlib.Numerals.{add-one}
 use native.Mathlib.Omega.{arith}
 use lib.ListN.{length, getD, set, take, drop, length-append, length-take, take-append-drop}
-use lib.Seq.{slice, slice-empty, length-slice, sets, sets-eq, take-nil, take-suc, take-at, drop-at, drop-append-le, drop-set-lt, getD-drop, getD-take, length-take-le}
+use lib.Seq.{drop-drop, slice, slice-empty, length-slice, sets, sets-eq, take-nil, take-suc, take-at, drop-at, drop-append-le, drop-set-lt, getD-drop, getD-take, length-take-le}
 use Rattle.vector.specs.Flat.{rows}
 
 -- storing two lists is storing one, and the other after it
@@ -29,6 +29,12 @@ pub past-sets : {A : Type 0} (l : List A) (i : ℕ) (xs : List A) (j : ℕ) (d :
 past-sets {A} l i xs j d h =
     let at : (m : List A) → getD m j d ≡ getD (drop j m) 0 d = λ m. sym (getD-drop j m 0 d ∙ ap (λ (k : ℕ). getD m k d) (add-zero j)) in
     at (sets l i xs) ∙ ap (λ (m : List A). getD m 0 d) (drop-sets l i xs j h) ∙ sym (at l)
+
+-- what lies past a place lies past any later one
+pub past-later : {A : Type 0} (j k : ℕ) (l m : List A) → j ≤ k → drop j l ≡ drop j m → drop k l ≡ drop k m
+past-later {A} j k l m h e =
+    let f : k ≡ j + (k - j) = omega arith in
+    ap (λ (i : ℕ). drop i l) f ∙ sym (drop-drop (k - j) j l) ∙ ap (drop (k - j)) e ∙ drop-drop (k - j) j m ∙ sym (ap (λ (i : ℕ). drop i m) f)
 
 -- elements stored from the front on, as far as they fit
 pub sets-front : {A : Type 0} (l xs : List A) → length xs ≤ length l → sets l 0 xs ≡ xs ++ drop (length xs) l

@@ -1,6 +1,7 @@
 -- `field::projection::project` meets its contract. The loop has made i tests, and what is left of the definition starts at q. Assumes nothing.
 use Prim.Native.Nat.{_-_, _+_, _≤_}
-use Rattle.field.proofs.Tests.{project-near, project-lost, project-far, project-on, project-end, not-true, not-false}
+use Rattle.field.proofs.Tests.{project-near, project-lost, project-far, project-on, project-end}
+use borrow.Author.Tests.{not-true, not-false}
 use Rattle.field.specs.Projection.{project, projectFrom}
 use Rattle.tables.specs.Tables.{sceneOf}
 use borrow.Author.Needs.{needs}

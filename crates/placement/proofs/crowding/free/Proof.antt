@@ -4,29 +4,29 @@ use mathlib.Core.Path.{_≡_, refl, sym, _∙_}
 use Prim.Native.Nat.{_-_}
 use native.Mathlib.Omega.{arith}
 use Rattle.vector.specs.Flat.{vecAt}
-use Rattle.field.proofs.Tests.{not-true, not-false}
+use borrow.Author.Tests.{not-true, not-false}
 use Rattle.placement.proofs.Crowded.{Layers, Rows, Row, row-more, rows-more, layers-more, cell-below, cell-small, taken, roomy}
 use borrow.Author.Needs.{needs}
 use Rattle.placement.proofs.crowding.free.Statement.{statement}
 use Rattle.placement.proofs.crowding.free.Tie as tie
 
 abbrev Inv-loop2 : tie.InvT-loop2
-Inv-loop2 s count p head next at b room₀ z y x₀ room x = (room ≡ true) × Layers s at (vecAt p) count z × Rows s at (vecAt p) count z y × Row s at (vecAt p) count z y x
+Inv-loop2 s count p head next at b alone₀ z y x₀ alone x = (alone ≡ true) × Layers s at (vecAt p) count z × Rows s at (vecAt p) count z y × Row s at (vecAt p) count z y x
 
 abbrev μ-loop2 : tie.MeasureT-loop2
-μ-loop2 s count p head next at b room₀ z y x₀ room x = b .wide - x
+μ-loop2 s count p head next at b alone₀ z y x₀ alone x = b .wide - x
 
 abbrev Inv-loop : tie.InvT-loop
-Inv-loop s count p head next at b room₀ z y₀ room y = (room ≡ true) × Layers s at (vecAt p) count z × Rows s at (vecAt p) count z y
+Inv-loop s count p head next at b alone₀ z y₀ alone y = (alone ≡ true) × Layers s at (vecAt p) count z × Rows s at (vecAt p) count z y
 
 abbrev μ-loop : tie.MeasureT-loop
-μ-loop s count p head next at b room₀ z y₀ room y = b .rows - y
+μ-loop s count p head next at b alone₀ z y₀ alone y = b .rows - y
 
 abbrev Inv-search : tie.InvT-search
-Inv-search s count p head next at b room₀ z₀ room z = (room ≡ true) × Layers s at (vecAt p) count z
+Inv-search s count p head next at b alone₀ z₀ alone z = (alone ≡ true) × Layers s at (vecAt p) count z
 
 abbrev μ-search : tie.MeasureT-search
-μ-search s count p head next at b room₀ z₀ room z = b .layers - z
+μ-search s count p head next at b alone₀ z₀ alone z = b .layers - z
 
 search-holds : tie.Need-search-holds Inv-loop2 μ-loop2 Inv-loop μ-loop Inv-search μ-search
 search-holds c = (refl, λ i j k h l m. absurd (omega arith))
@@ -37,8 +37,22 @@ loop-holds c = let se = c .before .before in (se .search .inv .0, se .search .in
 loop2-holds : tie.Need-loop2-holds Inv-loop2 μ-loop2 Inv-loop μ-loop Inv-search μ-search
 loop2-holds c = let lp = c .before .before in (lp .loop .inv .0, lp .loop .inv .1, lp .loop .inv .2, λ i h. absurd (omega arith))
 
-mul-c : tie.Need-mul-c Inv-loop2 μ-loop2 Inv-loop μ-loop Inv-search μ-search
-mul-c c =
+cell-at-requires : tie.Need-cell-at-requires Inv-loop2 μ-loop2 Inv-loop μ-loop Inv-search μ-search
+cell-at-requires c κs =
+    let t3 = c in
+    let l2 = t3 .before .before in
+    let t2 = l2 .before in
+    let lp = t2 .before .before in
+    let t1 = lp .before in
+    let se = t1 .before .before in
+    let bn = se .before in
+    let s = bn .before .before .before .before in
+    let a = s .args in
+    let e = bn .block-near .ensures in
+    cell-small (a .s) (a .at) e (l2 .loop2 .x) (lp .loop .y) (se .search .z) (t3 .if3 .taken) (t2 .if2 .taken) (t1 .if1 .taken)
+
+vacant-requires : tie.Need-vacant-requires Inv-loop2 μ-loop2 Inv-loop μ-loop Inv-search μ-search
+vacant-requires c κs =
     let t3 = c .before in
     let l2 = t3 .before .before in
     let t2 = l2 .before in
@@ -49,87 +63,17 @@ mul-c c =
     let s = bn .before .before .before .before in
     let a = s .args in
     let e = bn .block-near .ensures in
-    omega (arith, cell-small (a .s) (a .at) e (l2 .loop2 .x) (lp .loop .y) (se .search .z) (t3 .if3 .taken) (t2 .if2 .taken) (t1 .if1 .taken))
-
-add-c : tie.Need-add-c Inv-loop2 μ-loop2 Inv-loop μ-loop Inv-search μ-search
-add-c c =
-    let t3 = c .before .before in
-    let l2 = t3 .before .before in
-    let t2 = l2 .before in
-    let lp = t2 .before .before in
-    let t1 = lp .before in
-    let se = t1 .before .before in
-    let bn = se .before in
-    let s = bn .before .before .before .before in
-    let a = s .args in
-    let e = bn .block-near .ensures in
-    omega (arith, cell-small (a .s) (a .at) e (l2 .loop2 .x) (lp .loop .y) (se .search .z) (t3 .if3 .taken) (t2 .if2 .taken) (t1 .if1 .taken))
-
-mul-c-2 : tie.Need-mul-c-2 Inv-loop2 μ-loop2 Inv-loop μ-loop Inv-search μ-search
-mul-c-2 c =
-    let t3 = c .before .before .before in
-    let l2 = t3 .before .before in
-    let t2 = l2 .before in
-    let lp = t2 .before .before in
-    let t1 = lp .before in
-    let se = t1 .before .before in
-    let bn = se .before in
-    let s = bn .before .before .before .before in
-    let a = s .args in
-    let e = bn .block-near .ensures in
-    omega (arith, cell-small (a .s) (a .at) e (l2 .loop2 .x) (lp .loop .y) (se .search .z) (t3 .if3 .taken) (t2 .if2 .taken) (t1 .if1 .taken))
-
-add-c-2 : tie.Need-add-c-2 Inv-loop2 μ-loop2 Inv-loop μ-loop Inv-search μ-search
-add-c-2 c =
-    let t3 = c .before .before .before in
-    let l2 = t3 .before .before in
-    let t2 = l2 .before in
-    let lp = t2 .before .before in
-    let t1 = lp .before in
-    let se = t1 .before .before in
-    let bn = se .before in
-    let s = bn .before .before .before .before in
-    let a = s .args in
-    let e = bn .block-near .ensures in
-    omega (arith, cell-small (a .s) (a .at) e (l2 .loop2 .x) (lp .loop .y) (se .search .z) (t3 .if3 .taken) (t2 .if2 .taken) (t1 .if1 .taken))
-
-add-c-3 : tie.Need-add-c-3 Inv-loop2 μ-loop2 Inv-loop μ-loop Inv-search μ-search
-add-c-3 c =
-    let t3 = c .before .before .before in
-    let l2 = t3 .before .before in
-    let t2 = l2 .before in
-    let lp = t2 .before .before in
-    let t1 = lp .before in
-    let se = t1 .before .before in
-    let bn = se .before in
-    let s = bn .before .before .before .before in
-    let a = s .args in
-    let e = bn .block-near .ensures in
-    omega (arith, cell-small (a .s) (a .at) e (l2 .loop2 .x) (lp .loop .y) (se .search .z) (t3 .if3 .taken) (t2 .if2 .taken) (t1 .if1 .taken))
-
-vacant-requires : tie.Need-vacant-requires Inv-loop2 μ-loop2 Inv-loop μ-loop Inv-search μ-search
-vacant-requires c κs =
-    let t3 = c .before .before .before in
-    let l2 = t3 .before .before in
-    let t2 = l2 .before in
-    let lp = t2 .before .before in
-    let t1 = lp .before in
-    let se = t1 .before .before in
-    let bn = se .before in
-    let s = bn .before .before .before .before in
-    let a = s .args in
-    let e = bn .block-near .ensures in
-    (rw e (cell-below (a .s) (a .at) (l2 .loop2 .x) (lp .loop .y) (se .search .z) (rw e at (t3 .if3 .taken)) (rw e at (t2 .if2 .taken)) (rw e at (t1 .if1 .taken))), s .pre)
+    (rw (c .cell-at .ensures, e) (cell-below (a .s) (a .at) (l2 .loop2 .x) (lp .loop .y) (se .search .z) (rw e at (t3 .if3 .taken)) (rw e at (t2 .if2 .taken)) (rw e at (t1 .if1 .taken))), s .pre)
 
 add-x : tie.Need-add-x Inv-loop2 μ-loop2 Inv-loop μ-loop Inv-search μ-search
-add-x c = omega (arith, c .before .before .before .before .before .if3 .taken)
+add-x c = omega (arith, c .before .before .before .if3 .taken)
 
 loop2-less : tie.Need-loop2-less Inv-loop2 μ-loop2 Inv-loop μ-loop Inv-search μ-search
-loop2-less c = omega (arith, c .before .before .before .before .before .if3 .taken)
+loop2-less c = omega (arith, c .before .before .before .if3 .taken)
 
 loop2-again : tie.Need-loop2-again Inv-loop2 μ-loop2 Inv-loop μ-loop Inv-search μ-search
 loop2-again c =
-    let t3 = c .before .before .before .before .before in
+    let t3 = c .before .before .before in
     let l2 = t3 .before .before in
     let t2 = l2 .before in
     let lp = t2 .before .before in
@@ -139,7 +83,7 @@ loop2-again c =
     let s = bn .before .before .before .before in
     let a = s .args in
     let e = bn .block-near .ensures in
-    (l2 .loop2 .inv .0, l2 .loop2 .inv .1, l2 .loop2 .inv .2, row-more (a .s) (a .at) (vecAt (a .p .now)) (a .count) (l2 .loop2 .x) (lp .loop .y) (se .search .z) (l2 .loop2 .inv .3) (rw e at (sym (c .before .vacant .ensures) ∙ not-false _ (c .if4 .left))))
+    (l2 .loop2 .inv .0, l2 .loop2 .inv .1, l2 .loop2 .inv .2, row-more (a .s) (a .at) (vecAt (a .p .now)) (a .count) (l2 .loop2 .x) (lp .loop .y) (se .search .z) (l2 .loop2 .inv .3) (rw (c .before .before .cell-at .ensures, e) at (sym (c .before .vacant .ensures) ∙ not-false _ (c .if4 .left))))
 
 add-y : tie.Need-add-y Inv-loop2 μ-loop2 Inv-loop μ-loop Inv-search μ-search
 add-y c = omega (arith, c .before .before .before .if2 .taken)
@@ -189,7 +133,7 @@ returns c =
 
 returns-2 : tie.Need-returns-2 Inv-loop2 μ-loop2 Inv-loop μ-loop Inv-search μ-search
 returns-2 c =
-    let t3 = c .before .before .before .before .before in
+    let t3 = c .before .before .before in
     let l2 = t3 .before .before in
     let t2 = l2 .before in
     let lp = t2 .before .before in
@@ -199,8 +143,8 @@ returns-2 c =
     let s = bn .before .before .before .before in
     let a = s .args in
     let e = bn .block-near .ensures in
-    sym (taken (a .s) (a .at) (vecAt (a .p .now)) (a .count) (l2 .loop2 .x) (lp .loop .y) (se .search .z) (rw e at (t3 .if3 .taken)) (rw e at (t2 .if2 .taken)) (rw e at (t1 .if1 .taken)) (rw e at (sym (c .before .vacant .ensures) ∙ not-true _ (c .if4 .taken))))
+    sym (taken (a .s) (a .at) (vecAt (a .p .now)) (a .count) (l2 .loop2 .x) (lp .loop .y) (se .search .z) (rw e at (t3 .if3 .taken)) (rw e at (t2 .if2 .taken)) (rw e at (t1 .if1 .taken)) (rw (c .before .before .cell-at .ensures, e) at (sym (c .before .vacant .ensures) ∙ not-true _ (c .if4 .taken))))
 
 pub free-spec : {M : Type 1} → statement M
 free-spec =
-    tie.close (tie.spec Inv-loop2 μ-loop2 Inv-loop μ-loop Inv-search μ-search (λ c κs. search needs) search-holds loop-holds loop2-holds mul-c add-c mul-c-2 add-c-2 add-c-3 vacant-requires add-x loop2-less loop2-again add-y loop-less loop-again add-z search-less search-again returns returns-2)
+    tie.close (tie.spec Inv-loop2 μ-loop2 Inv-loop μ-loop Inv-search μ-search (λ c κs. search needs) search-holds loop-holds loop2-holds cell-at-requires vacant-requires add-x loop2-less loop2-again add-y loop-less loop-again add-z search-less search-again returns returns-2)
