@@ -44,6 +44,7 @@ impl Shape {
             Shape::Cone { a, b, ra, rb } => cone::cone(a, b, ra, rb, p),
         }
     }
+
     // Whether the shape is surely no nearer to p than best, found with no root: where it is true, best
     // is above 0 and no more than the distance. False says nothing.
     pub fn far(self, p: Vec3, best: f32) -> bool
