@@ -1,0 +1,3 @@
+-- The lemmas of the proofs of `room`.
+pub mod Tested
+pub mod Filled

@@ -1,0 +1,3 @@
+-- The definitions that the contracts of `room` cite.
+pub mod Lent
+pub mod Answers
