@@ -2,12 +2,22 @@
 //! float steps gives other bits, the tables of the closure's directions, and the steps of placement.
 //! `oracle/build` runs these tests.
 
+// Shared with the replays, which use all of them.
+#[allow(dead_code)]
+mod answers;
+mod reports;
+#[allow(dead_code)]
+mod room_files;
+mod room_refusals;
+mod weights;
+
 use interflect::formfactor::{self, Cluster, Transfer};
 use interflect::scene::{open::of_shapes, QuadLight, Scene};
 use interflect::sdf::{Object, Prim};
 use interflect::solve::{light_surfels, solve};
 use interflect::surfel::{self, gather, Grid, Surfel};
 use interflect::{ltc, trace, Vec3};
+use room_files::{bytes_of, RoomFile};
 
 /// The surfel of room Q after a reset, and the room's one link.
 fn room_q() -> ([Surfel; 1], Transfer) {
@@ -221,6 +231,112 @@ fn the_report_of_q() {
     let probe = |x| gather(&surfels, &grid, Vec3::new(x, 0.0, 0.0), surfels[0].n, 1.0);
     assert_eq!(probe(0.0).x.to_bits(), 0x3F2AA800);
     assert_eq!(probe(1.0).x.to_bits(), 0);
+}
+
+/// Room Q's file, word by word as document 01 lays it out: the header, a surfel, a cluster, a member,
+/// two row starts, a link, the box, the cell and the radius, and two probes.
+const FILE_Q: [u32; 57] = [
+    1, 1, 1, 1, 1, 2, 12, 64, 116, 128, 132, 140, 148, 228, 0, 0, //
+    0, 0, 0, 0, 0, 0x3F800000, 0x3F000000, 0x3F000000, 0x3F000000, 0x3F800000, //
+    0x3F800000, 0x3F800000, 0x3F800000, //
+    0x3F800000, 0, 1, //
+    0, //
+    0, 1, //
+    0, 0x3F000000, //
+    0, 0, 0, 0x40800000, 0x3F800000, 0x3F800000, 0x3F800000, 0x3F800000, //
+    0, 0, 0, 0, 0, 0x3F800000, 0x3F800000, 0, 0, 0, 0, 0x3F800000,
+];
+
+#[test]
+fn the_file_of_q() {
+    assert_eq!(RoomFile::q().words(), FILE_Q);
+    let bytes = RoomFile::q().bytes();
+    assert_eq!(bytes.len(), 228);
+    assert_eq!(bytes[..8], [1, 0, 0, 0, 1, 0, 0, 0]);
+    assert_eq!(bytes[28..36], [64, 0, 0, 0, 116, 0, 0, 0]);
+}
+
+/// "It prints exactly".
+#[test]
+fn the_text_of_q() {
+    let text = "surfels 1 clusters 1 links 1
+bounces 7 residual 38800000 settled
+probe 0 seen 3F2AA800 3F2AA800 3F2AA800
+probe 1 unseen 00000000 00000000 00000000
+";
+    assert_eq!(reports::report(&bytes_of(&FILE_Q)), text);
+}
+
+/// What is printed of room Q with one word of its file changed.
+fn report_of_q(place: usize, word: u32) -> String {
+    let mut words = FILE_Q;
+    words[place] = word;
+    reports::report(&bytes_of(&words))
+}
+
+/// "A refusal prints only `refused`, a space and the number": a form, a limit, a cell, a grid, an
+/// albedo and a member.
+#[test]
+fn the_refusals_of_q() {
+    let (tiny, above) = (0.0001f32.to_bits(), 1.0f32.next_up().to_bits());
+    assert_eq!(report_of_q(0, 2), "refused 1\n");
+    assert_eq!(report_of_q(6, 4_097), "refused 2\n");
+    assert_eq!(report_of_q(43, 0), "refused 3\n");
+    assert_eq!(report_of_q(43, tiny), "refused 4\n");
+    assert_eq!(report_of_q(22, above), "refused 5\n");
+    assert_eq!(report_of_q(32, 1), "refused 7\n");
+    assert_eq!(reports::report(&bytes_of(&FILE_Q)[..227]), "refused 1\n");
+}
+
+/// "It has 16,384 places for grid starts": 127 × 43 × 3 cells need them all, 128 × 128 one more.
+#[test]
+fn places_for_grid_starts() {
+    let of_box = |x, y, z| {
+        let mut room = RoomFile::empty(Vec3::ZERO, Vec3::new(x, y, z), 1.0, 1.0);
+        room.limit = 12;
+        reports::report(&room.bytes())
+    };
+    let nothing = "surfels 0 clusters 0 links 0\nbounces 0 residual 00000000 open\n";
+    assert_eq!(of_box(127.0, 43.0, 3.0), nothing);
+    assert_eq!(of_box(128.0, 128.0, 1.0), "refused 4\n");
+}
+
+/// A file without surfels and probes has a header, one row start and the eight floats of a box.
+#[test]
+fn the_smallest_file() {
+    let room = RoomFile::empty(Vec3::ZERO, Vec3::ONE, 1.0, 1.0);
+    assert_eq!(room.bytes().len(), 100);
+    assert!(reports::report(&room.bytes()).starts_with("surfels 0 "));
+}
+
+/// The number that refuses a file of more than 65,536 bytes by the limits of any file, and 1 by those
+/// of `roomlight`; 0 where no number does.
+fn number_of(room: &RoomFile) -> u32 {
+    let bytes = room.bytes();
+    let number = |limits| room_refusals::read(&bytes, limits).map_or_else(|n| n, |_| 0);
+    assert!(bytes.len() > 65_536);
+    assert_eq!(number(room_refusals::ROOMLIGHT), 1);
+    number(room_refusals::FILE)
+}
+
+/// "surfels, members, points or target over 400,000; clusters over 65,536".
+#[test]
+fn counts_over_their_limits() {
+    let q = RoomFile::q();
+    for (more, number) in [(0, 0), (1, 2)] {
+        let mut room = q.clone();
+        room.probes = vec![q.probes[0]; 400_000 + more];
+        assert_eq!(number_of(&room), number);
+        room = q.clone();
+        room.set_clusters(&[(1.0, vec![0; 400_000 + more])]);
+        assert_eq!(number_of(&room), number);
+        room.set_clusters(&vec![(1.0, Vec::new()); 65_536 + more]);
+        assert_eq!(number_of(&room), number);
+        room = q.clone();
+        room.surfels = vec![q.surfels[0]; 400_000 + more];
+        room.set_rows(&vec![Vec::new(); 400_000 + more]);
+        assert_eq!(number_of(&room), number);
+    }
 }
 
 #[test]

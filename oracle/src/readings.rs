@@ -5,7 +5,8 @@ use crate::answers::word;
 use crate::cases::Case;
 use crate::grid_refusals::{self as refusals, cells, dims};
 use crate::sheets::Sheet;
-use interflect::surfel::{gather, open, Grid, Surfel};
+use crate::weights;
+use interflect::surfel::{open, Grid, Surfel};
 use interflect::Vec3;
 
 /// The result words: a refusal's number alone, else zero and the answer; of the five questions that
@@ -105,54 +106,10 @@ fn read_all(s: &mut Sheet, n: u32, probes: u32, radius: f32) -> Answered {
     Ok(Vec::new())
 }
 
-/// The Rust's reading, and by the weight sum whether it is one: "unseen is answered if and only if
-/// the weight sum doesn't exceed 0.000001, where the Rust gives zero".
+/// The Rust's reading, none where it is unseen. For tables that are not refused.
 fn reading(s: &Sheet, n: u32, at: Vec3, normal: Vec3, radius: f32) -> Option<Vec3> {
-    let grid = grid(s, n);
     let surfels: Vec<Surfel> = (0..n as usize).map(|i| surfel(s, i)).collect();
-    let light = gather(&surfels, &grid, at, normal, radius);
-    let seen = weight_sum(&surfels, &grid, at, normal, radius) > 0.000001;
-    assert_eq!(seen, seen_by_gather(surfels, &grid, at, normal, radius));
-    if seen {
-        return Some(light);
-    }
-    assert_eq!([light.x, light.y, light.z].map(f32::to_bits), [0; 3]);
-    None
-}
-
-/// Whether the Rust's own `gather` divides: where every surfel has an irradiance of 1, the light that
-/// it sums is the weight sum itself, so that it gives exactly 1 where it divides and 0 where not.
-fn seen_by_gather(surfels: Vec<Surfel>, grid: &Grid, p: Vec3, n: Vec3, radius: f32) -> bool {
-    let ones: Vec<Surfel> = surfels
-        .into_iter()
-        .map(|s| Surfel {
-            irr: Vec3::splat(1.0),
-            ..s
-        })
-        .collect();
-    let light = gather(&ones, grid, p, n, radius);
-    assert!(light.x == 0.0 || light.x == 1.0, "{light:?}");
-    light.x == 1.0
-}
-
-/// The weights that `gather` (surfel.rs) sums, in its steps.
-pub fn weight_sum(surfels: &[Surfel], grid: &Grid, p: Vec3, n: Vec3, radius: f32) -> f32 {
-    let r2 = radius * radius;
-    let mut wsum = 0.0f32;
-    grid.for_each_near(p, 1, |i| {
-        let s = &surfels[i as usize];
-        let d2 = (s.p - p).length_squared();
-        if d2 > r2 {
-            return;
-        }
-        let align = s.n.dot(n);
-        if align <= 0.15 {
-            return;
-        }
-        let t = 1.0 - d2 / r2;
-        wsum += t * t * align;
-    });
-    wsum
+    weights::reading(&surfels, &grid(s, n), at, normal, radius)
 }
 
 fn surfel(s: &Sheet, i: usize) -> Surfel {

@@ -1,9 +1,11 @@
-//! `replay CRATES` writes the files stdin and stdout of each crates/replay_* program: the cases, and
-//! what the Rust answers. The same bytes in every run.
+//! `replay CRATES ROOMS` writes the files stdin and stdout of each crates/replay_* program: the cases,
+//! and what the Rust answers; and the room files of a folder, each with its report, of which room Q is
+//! what crates/roomlight is run on. The same bytes in every run.
 
 mod answers;
 mod cases;
 mod grid_refusals;
+mod held_rooms;
 mod placement_cases;
 mod placement_refusals;
 mod placements;
@@ -11,7 +13,12 @@ mod queries;
 mod random;
 mod readings;
 mod refusals;
+mod reports;
+mod room_cases;
+mod room_files;
+mod room_refusals;
 mod rooms;
+mod sample_rooms;
 mod scene_cases;
 mod sheets;
 mod sites;
@@ -24,8 +31,10 @@ mod tables;
 mod transfer_cases;
 mod transfer_refusals;
 mod transfers;
+mod weights;
 
 use cases::Case;
+use held_rooms::Held;
 use rooms::Room;
 use sheets::Sheet;
 use sites::Site;
@@ -35,7 +44,8 @@ use stores::Store;
 use tables::Tables;
 
 fn main() -> io::Result<()> {
-    let crates = env::args_os().nth(1).expect("usage: replay CRATES");
+    let folder = |k| env::args_os().nth(k).expect("usage: replay CRATES ROOMS");
+    let (crates, rooms) = (folder(1), folder(2));
     let crates = Path::new(&crates);
     write(&crates.join("replay_float"), &cases::floats(), |case| {
         Some(answers::answer(case.name, &case.operands))
@@ -65,22 +75,55 @@ fn main() -> io::Result<()> {
         &crates.join("replay_placement"),
         &placement_cases::all(),
         |case| placements::lines(&mut site, case),
-    )
+    )?;
+    let mut held = Held::new();
+    write_text(&crates.join("replay_room"), &room_cases::all(), |case| {
+        held.printed(case)
+    })?;
+    write_rooms(Path::new(&rooms), &crates.join("roomlight"))
 }
 
-/// Writes the cases and their answers into a folder, a line for each case and each answer, and prints
-/// how many cases there are. A case without an answer has no line in stdout, and one may have many.
+/// Writes each sample room and its report into a folder, and room Q as what a program is run on.
+fn write_rooms(folder: &Path, roomlight: &Path) -> io::Result<()> {
+    fs::create_dir_all(folder)?;
+    fs::create_dir_all(roomlight)?;
+    for (name, room) in sample_rooms::all() {
+        let (bytes, text) = (room.bytes(), reports::report(&room.bytes()));
+        fs::write(folder.join(format!("{name}.room")), &bytes)?;
+        fs::write(folder.join(format!("{name}.txt")), &text)?;
+        if name == "q" {
+            fs::write(roomlight.join("stdin"), &bytes)?;
+            fs::write(roomlight.join("stdout"), &text)?;
+        }
+        let first = text.lines().take(2).collect::<Vec<_>>().join(", ");
+        println!("{name}.room: {} bytes: {first}", bytes.len());
+    }
+    Ok(())
+}
+
+/// Writes the cases and their answers into a folder, a line for each case and each answer. A case
+/// without an answer has no line in stdout, and one may have many.
 fn write<A: IntoIterator<Item = Vec<u32>>>(
     folder: &Path,
     cases: &[Case],
     mut answer: impl FnMut(&Case) -> A,
 ) -> io::Result<()> {
+    write_text(folder, cases, |case| {
+        let lines = answer(case).into_iter();
+        lines.map(|words| hexadecimal(&words) + "\n").collect()
+    })
+}
+
+/// Writes the cases and the text that each prints, and prints how many cases there are.
+fn write_text(
+    folder: &Path,
+    cases: &[Case],
+    mut printed: impl FnMut(&Case) -> String,
+) -> io::Result<()> {
     let (mut stdin, mut stdout) = (String::new(), String::new());
     for case in cases {
         stdin += &format!("{} {}\n", case.name, hexadecimal(&case.operands));
-        for words in answer(case) {
-            stdout += &format!("{}\n", hexadecimal(&words));
-        }
+        stdout += &printed(case);
     }
     fs::create_dir_all(folder)?;
     fs::write(folder.join("stdin"), &stdin)?;
