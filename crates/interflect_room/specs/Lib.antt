@@ -1,0 +1,3 @@
+-- The definitions that the contracts of `interflect_room` cite.
+pub mod Reading
+pub mod Reporting

@@ -1,0 +1,20 @@
+// The report on a room file. It returns 0, or the number of the refusal and then writes nothing.
+use report::ReportAnswer;
+ghost use mathlib.Core.Path.{_≡_};
+ghost use Rattle.interflect_room.specs.Reporting.{interflectRoomReport};
+
+// Writes what `roomlight` prints of the file to the front of text: length becomes how many bytes it
+// is. text has 131,072 bytes or more.
+#[no_mangle]
+pub extern "C" fn interflect_room_report(bytes: &[u8], text: &mut [u8], length: &mut usize) -> u32
+    ensures { λ r. ⌜ (r, now (length .exit), now (text .exit))
+        ≡ interflectRoomReport (now (bytes .entry)) (now (length .entry)) (now (text .entry)) ⌝ }
+{
+    match report::room_report(bytes, text) {
+        ReportAnswer::Refused(number) => number,
+        ReportAnswer::Done(end) => {
+            *length = end;
+            0
+        }
+    }
+}
