@@ -14,6 +14,7 @@ pub fn all() -> Vec<(&'static str, RoomFile)> {
     let clinic = clinic();
     vec![
         ("q", RoomFile::q()),
+        ("full", full()),
         ("clinic_open", with(&clinic, |room| room.limit = 2)),
         ("clinic_cells", with(&clinic, |room| room.cell = 0.1)),
         (
@@ -30,6 +31,17 @@ fn with(room: &RoomFile, change: impl Fn(&mut RoomFile)) -> RoomFile {
     let mut other = room.clone();
     change(&mut other);
     other
+}
+
+/// Room Q with one bounce and its surfel a member as often as fills 65,536 bytes, the most that
+/// `roomlight` takes.
+fn full() -> RoomFile {
+    with(&RoomFile::q(), |room| {
+        let more = (65_536 - room.bytes().len()) / 4;
+        room.members = vec![0; 1 + more];
+        room.clusters[0].count = 1 + more as u32;
+        room.limit = 1;
+    })
 }
 
 const UP: Vec3 = Vec3::new(0.0, 0.0, 1.0);

@@ -80,11 +80,12 @@ file-ends b most e =
     in
     (eqb-true (length b) (4 * endOf c) (t .1 .1 .1 .1 .1 .1 .1 .1 .1 .1 .0), leb-true (length b) most (t .1 .0))
 
--- and it ends where its counts say, where they are not too many
+-- and it has the words that its counts say, where they are not too many
 pub formed-ends : (b : List ℕ) (most : ℕ) {c : Counts} → c ≡ countsIn b → endOf c ≤ 1099511627776 → formed b most ≡ true → Ends b c
 formed-ends b most {c} e h f =
     let k : words b ≡ endOf (countsIn b) = omega (arith, file-ends b most f .0) in
-    record { few = h; whole = rw e k }
+    let m : words b ≡ endOf c = rw e k in
+    record { few = omega (arith, m, h); whole = omega (arith, m) }
 
 -- ---- the columns of a file that is formed, and no longer than a room file may be
 

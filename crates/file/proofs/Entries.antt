@@ -1,7 +1,7 @@
 -- The columns of a room file as lists: how long they are, what stands where, and a column that lies in its file. Assumes nothing.
 use mathlib.Core.Bool.{Bool, true, false, _&&_, and-eq-true-iff}
 use mathlib.Core.List.{List, [], _∷_, append-nil}
-use mathlib.Core.Path.{_≡_, refl, sym, ap, _∙_}
+use mathlib.Core.Path.{_≡_, refl, sym, ap, subst, _∙_}
 use Prim.Native.Nat.{ℕ, zero, suc, _+_, _*_, _≤_, _<_}
 use native.Mathlib.Nat.{add-zero, add-suc, zero-mul, suc-mul, mul-suc, mul-comm, mul-le-mul, mul-le-mul-left}
 use native.Mathlib.Numerals.{add-one}
@@ -22,7 +22,9 @@ use Rattle.accept.specs.Tables.{numberAt, holds}
 use Rattle.accept.proofs.Bounded.{le-holds}
 use Rattle.accept.proofs.Every.{every-same, conj-each}
 use Rattle.file.specs.declared.Column.{Column}
+use Rattle.file.specs.declared.Counts.{Counts}
 use Rattle.file.specs.Words.{words, wordIn, floatIn}
+use Rattle.file.specs.Blocks.{countsIn}
 use Rattle.file.specs.Columns.{entryFrom, entryFloats, numbersOver, floatsOver, numbersOf, floatsOf, inside, numbersRead, floatsRead}
 use Rattle.file.specs.Needs.{Inside}
 
@@ -206,3 +208,18 @@ read-floats-exact b col l h k =
 
 pub read-numbers-exact : (b : List ℕ) (col : Column) (l : List ℕ) → inside b col ≡ true → length l ≡ col .count → numbersRead b col l ≡ numbersOf b col
 read-numbers-exact b col l h k = read-numbers b col l h (le-leb (col .count) (length l) (omega arith)) ∙ numbers-exact b col l k
+
+-- into a list of its length, by the counts that were handed
+pub floats-in : (b : List ℕ) {c : Counts} (col : Counts → Column) (l : List Float) {m : List Float} → c ≡ countsIn b → inside b (col (countsIn b)) ≡ true
+    → length l ≡ col c .width * col c .count → m ≡ floatsRead b (col c) l → m ≡ floatsOf b (col (countsIn b))
+floats-in b col l e h k p =
+    p
+    ∙ ap (λ (x : Counts). floatsRead b (col x) l) e
+    ∙ read-floats-exact b (col (countsIn b)) l h (subst (λ (x : Counts). length l ≡ col x .width * col x .count) e k)
+
+pub numbers-in : (b : List ℕ) {c : Counts} (col : Counts → Column) (l : List ℕ) {m : List ℕ} → c ≡ countsIn b → inside b (col (countsIn b)) ≡ true
+    → length l ≡ col c .count → m ≡ numbersRead b (col c) l → m ≡ numbersOf b (col (countsIn b))
+numbers-in b col l e h k p =
+    p
+    ∙ ap (λ (x : Counts). numbersRead b (col x) l) e
+    ∙ read-numbers-exact b (col (countsIn b)) l h (subst (λ (x : Counts). length l ≡ col x .count) e k)

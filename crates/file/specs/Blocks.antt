@@ -17,31 +17,31 @@ countsIn b =
       limit = wordIn b 6;
     }
 
--- where each block begins: after the header's 16 words, one after the other, with no gaps. A surfel has 13 words
+-- where each block begins, one after the other, with no gaps: the surfels after the header's 16 words
 abbrev pub surfelsFrom : ℕ
 surfelsFrom = 16
 
--- a cluster has three
+-- the clusters after 13 words of each surfel
 abbrev pub clustersFrom : Counts → ℕ
 clustersFrom c = surfelsFrom + 13 * c .surfels
 
--- a member has one
+-- the members after three words of each cluster
 abbrev pub membersFrom : Counts → ℕ
 membersFrom c = clustersFrom c + 3 * c .clusters
 
--- row starts have one each, one start more than rows
+-- the row starts after one word of each member
 abbrev pub startsFrom : Counts → ℕ
 startsFrom c = membersFrom c + c .members
 
--- a link has two
+-- the links after the row starts, one more than surfels
 abbrev pub linksFrom : Counts → ℕ
 linksFrom c = startsFrom c + (c .surfels + 1)
 
--- lo, hi, cell and radius have eight together, and then a probe has six
+-- lo, hi, cell, radius and the probes after two words of each link
 abbrev pub probesFrom : Counts → ℕ
 probesFrom c = linksFrom c + 2 * c .links
 
--- where the file ends
+-- where the file ends: after these eight words, and six of each probe
 abbrev pub endOf : Counts → ℕ
 endOf c = probesFrom c + 8 + 6 * c .probes
 

@@ -34,7 +34,7 @@ numbersOf b col = numbersOver b col []
 unfoldable pub floatsOf : List ℕ → Column → List Float
 floatsOf b col = floatsOver b col []
 
--- a file, no longer than a room file may be, has all entries of a column
+-- a column lies in a file: the file is no longer than a room file may be, and has all entries, of 1 to `step` words each, `step` at most 16
 unfoldable pub inside : List ℕ → Column → Bool
 inside b col =
     conj (leb (length b) maxFile
@@ -45,7 +45,7 @@ inside b col =
     ∷ leb (col .from + col .step * col .count + col .width) (words b + col .step)
     ∷ [])
 
--- a list after a column was read into it: its entries in front where the file has them and the list holds them, else as it was
+-- a list after a column was read into it: its entries in front where the column lies in the file and the list holds them, else as it was
 unfoldable pub numbersRead : List ℕ → Column → List ℕ → List ℕ
 numbersRead b col l = cond (inside b col && leb (col .count) (length l)) (numbersOver b col l) l
 

@@ -1,7 +1,6 @@
 -- What the functions beneath the public ones ask of each other. Definitions only.
 use mathlib.Core.List.{List}
-use mathlib.Core.Path.{_≡_}
-use Prim.Native.Nat.{ℕ, _+_, _*_, _<_, _≤_}
+use Prim.Native.Nat.{ℕ, _+_, _<_, _≤_}
 use Rattle.file.specs.declared.Column.{Column}
 use Rattle.file.specs.declared.Counts.{Counts}
 use Rattle.file.specs.Words.{words}
@@ -18,7 +17,7 @@ pub record Inside (b : List ℕ) (col : Column) : Type 0 where
   pub last : entryFrom col (col .count) ≤ words b + 16
   pub each : (i : ℕ) → i < col .count → entryFrom col i + col .width ≤ words b
 
--- the file ends where its counts say, which are numbers of 32 bits
+-- the file has the words that its counts say, which are numbers of 32 bits
 pub record Ends (b : List ℕ) (c : Counts) : Type 0 where
-  pub few : endOf c ≤ 1099511627776
-  pub whole : words b ≡ endOf c
+  pub few : words b ≤ 1099511627776
+  pub whole : endOf c ≤ words b

@@ -5,7 +5,6 @@ use lib.Ieee.{Float}
 use Rattle.transfer.specs.Room.{Clusters, Rows, Room, clustersOf, rowsOf, roomOf}
 use Rattle.surfel.specs.Checks.{Probes}
 use Rattle.file.specs.declared.ProbeBox.{ProbeBox}
-use Rattle.file.specs.declared.Counts.{Counts}
 use Rattle.file.specs.Words.{floatIn, vecIn}
 use Rattle.file.specs.Columns.{numbersOf, floatsOf}
 use Rattle.file.specs.Blocks.{countsIn, probesFrom, points, normals, albedos, areas, directs, clusterAreas, firsts, memberCounts, members}

@@ -1,5 +1,5 @@
-// The columns of a file, read block by block. A column that the file has not in full, or that the
-// slice does not hold, is not read.
+// The columns of a file, read block by block. A column is read where the file, of at most 268,435,456
+// bytes, has all its entries and the slice holds them; otherwise the slice stays as it was.
 use crate::Counts;
 use crate::columns;
 use crate::floats::read_floats;
@@ -19,7 +19,13 @@ pub fn read_points(bytes: &[u8], c: Counts, p: &mut [f32], facing: &mut [f32])
 }
 
 // Reads their albedo, area and direct light.
-pub fn read_light(bytes: &[u8], c: Counts, albedo: &mut [f32], area: &mut [f32], direct: &mut [f32])
+pub fn read_surfaces(
+    bytes: &[u8],
+    c: Counts,
+    albedo: &mut [f32],
+    area: &mut [f32],
+    direct: &mut [f32],
+)
     ensures { λ _. ⌜ now (albedo .exit) ≡ floatsRead (now (bytes .entry)) (albedos c) (now (albedo .entry)) ⌝ }
     ensures { λ _. ⌜ now (area .exit) ≡ floatsRead (now (bytes .entry)) (areas c) (now (area .entry)) ⌝ }
     ensures { λ _. ⌜ now (direct .exit) ≡ floatsRead (now (bytes .entry)) (directs c) (now (direct .entry)) ⌝ }

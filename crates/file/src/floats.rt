@@ -16,7 +16,7 @@ ghost use Rattle.file.specs.Columns.{floatsOver, floatsOf, floatsRead};
 ghost use Rattle.file.specs.Columns.{inside as Columns·inside};
 ghost use Rattle.file.specs.Needs.{Inside};
 
-// Puts the floats of a column at the front of out, where the file has them all and out holds them;
+// Puts the floats of a column at the front of out, where the column lies in the file and out holds them;
 // otherwise out stays as it was.
 pub fn read_floats(bytes: &[u8], col: Column, out: &mut [f32])
     ensures { λ _. ⌜ now (out .exit) ≡ floatsRead (now (bytes .entry)) col (now (out .entry)) ⌝ }
@@ -26,7 +26,8 @@ pub fn read_floats(bytes: &[u8], col: Column, out: &mut [f32])
     }
 }
 
-// Whether a file has all entries of a column.
+// Whether a column lies in a file: the file is no longer than a room file may be and has all entries,
+// of 1 to `step` words each, `step` at most 16.
 pub fn inside(bytes: &[u8], col: Column) -> bool
     ensures { λ r. ⌜ r ≡ Columns·inside (now (bytes .entry)) col ⌝ }
 {

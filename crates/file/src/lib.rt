@@ -1,7 +1,7 @@
 // A room file: its words, its header and blocks, whether it is accepted, and its columns read.
 //
-// Every public function is total: a word that the file has not is 0, and a column that it has not in
-// full is not read.
+// Every public function is total: a word that the file lacks is 0, and a column is read only where the
+// file, of at most 268,435,456 bytes, has all its entries and the slice holds them.
 mod blocks;
 mod checks;
 mod columns;
@@ -11,29 +11,13 @@ mod numbers;
 mod words;
 
 pub use blocks::read_clusters;
-pub use blocks::read_light;
 pub use blocks::read_points;
 pub use blocks::read_probes;
 pub use blocks::read_rows;
+pub use blocks::read_surfaces;
 pub use checks::refusal;
-pub use columns::albedos;
-pub use columns::areas;
-pub use columns::cluster_areas;
-pub use columns::directs;
-pub use columns::firsts;
-pub use columns::link_clusters;
-pub use columns::link_weights;
-pub use columns::member_counts;
-pub use columns::members;
-pub use columns::normals;
-pub use columns::points;
-pub use columns::probe_normals;
-pub use columns::probe_points;
-pub use columns::row_starts;
-pub use floats::read_floats;
 pub use header::counts_in;
 pub use header::probe_box;
-pub use numbers::read_numbers;
 use vector::Vec3;
 
 // How many surfels, clusters, members, links and probes a file says it has, and the limit of

@@ -5,14 +5,14 @@ use crate::words::word;
 use accept::wide;
 ghost use mathlib.Core.Bool.{true};
 ghost use mathlib.Core.Path.{_≡_};
-ghost use Prim.Native.Nat.{_+_, _<_, _≤_};
+ghost use Prim.Native.Nat.{_<_, _≤_};
 ghost use lib.ListN.{length};
 ghost use Rattle.accept.specs.Tables.{numberAt, ascends, numbersBelow, startsMonotone, linksAscend, rangesContiguous};
 ghost use Rattle.file.specs.Words.{wordIn};
 ghost use Rattle.file.specs.Columns.{entryFrom, numbersOver, numbersOf, numbersRead};
 ghost use Rattle.file.specs.Needs.{Inside};
 
-// Puts the numbers of a column at the front of out, where the file has them all and out holds them;
+// Puts the numbers of a column at the front of out, where the column lies in the file and out holds them;
 // otherwise out stays as it was.
 pub fn read_numbers(bytes: &[u8], col: Column, out: &mut [u32])
     ensures { λ _. ⌜ now (out .exit) ≡ numbersRead (now (bytes .entry)) col (now (out .entry)) ⌝ }

@@ -8,7 +8,6 @@ use Rattle.vector.specs.Flat.{Out}
 use Rattle.vector.specs.Vector.{vec}
 use Rattle.file.specs.declared.Counts.{Counts}
 use Rattle.file.specs.declared.ProbeBox.{ProbeBox}
-use Rattle.room.specs.declared.Head.{Head}
 use Rattle.room.specs.declared.ReadAnswer.{ReadAnswer}
 use Rattle.room.specs.declared.ReadAnswer.the-variants.{Refused, Done}
 use Rattle.room.specs.Answers.{roomReadAnswer}

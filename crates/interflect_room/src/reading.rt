@@ -23,12 +23,12 @@ pub extern "C" fn interflect_room_read(
     link_weight: &mut [f32],
     probe_p: &mut [f32],
     probe_normals: &mut [f32],
-    surfels: &mut u32,
-    clusters: &mut u32,
-    members: &mut u32,
-    links: &mut u32,
-    probes: &mut u32,
-    limit: &mut u32,
+    surfels: &mut usize,
+    clusters: &mut usize,
+    members: &mut usize,
+    links: &mut usize,
+    probes: &mut usize,
+    limit: &mut usize,
     lox: &mut f32,
     loy: &mut f32,
     loz: &mut f32,
@@ -67,12 +67,12 @@ pub extern "C" fn interflect_room_read(
     match answer {
         ReadAnswer::Refused(number) => number,
         ReadAnswer::Done(head) => {
-            *surfels = head.counts.surfels;
-            *clusters = head.counts.clusters;
-            *members = head.counts.members;
-            *links = head.counts.links;
-            *probes = head.counts.probes;
-            *limit = head.counts.limit;
+            *surfels = head.counts.surfels as usize;
+            *clusters = head.counts.clusters as usize;
+            *members = head.counts.members as usize;
+            *links = head.counts.links as usize;
+            *probes = head.counts.probes as usize;
+            *limit = head.counts.limit as usize;
             *lox = head.bounds.lo.x;
             *loy = head.bounds.lo.y;
             *loz = head.bounds.lo.z;

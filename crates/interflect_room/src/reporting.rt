@@ -4,7 +4,7 @@ ghost use mathlib.Core.Path.{_≡_};
 ghost use Rattle.interflect_room.specs.Reporting.{interflectRoomReport};
 
 // Writes what `roomlight` prints of the file to the front of text: length becomes how many bytes it
-// is. text has 131,072 bytes or more.
+// is. text has 131,072 bytes or more. The call works on some MB of stack.
 #[no_mangle]
 pub extern "C" fn interflect_room_report(bytes: &[u8], text: &mut [u8], length: &mut usize) -> u32
     ensures { λ r. ⌜ (r, now (length .exit), now (text .exit))

@@ -9,7 +9,8 @@ use Rattle.text.specs.Digits.{hexDigits, decimalDigits}
 use Rattle.text.proofs.Spelling.{decimal-length, drop-replicate}
 use Rattle.text.proofs.Laws.{length-hex}
 use Rattle.lines.specs.declared.Line.{Line}
-use Rattle.lines.specs.Lines.{lineOf, followed}
+use Rattle.lines.specs.Lines.{lineOf}
+use Rattle.lines.specs.Needs.{followed}
 
 -- a line and a text that fits after it
 pub line-followed : (t s : List ℕ) → length t + length s ≤ 64 → followed (lineOf t) s ≡ lineOf (t ++ s)

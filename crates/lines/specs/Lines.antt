@@ -1,10 +1,9 @@
 -- The lines that `roomlight` prints, in ASCII: document 01, 'The room file and `roomlight`'. Counts are decimal, floats eight hexadecimal digits of their bits. Definitions only.
 use mathlib.Core.Bool.{Bool, cond}
 use mathlib.Core.List.{List, [], _∷_, _++_}
-use Prim.Native.Nat.{ℕ, _+_, _-_}
+use Prim.Native.Nat.{ℕ, _-_}
 use lib.Ieee.{Float, binary32, toBits}
 use lib.ListN.{length, replicate}
-use lib.Seq.{sets}
 use Rattle.text.specs.Digits.{hexDigits, decimalDigits}
 use Rattle.vector.specs.declared.Vec3.{Vec3}
 use Rattle.lines.specs.declared.Line.{Line}
@@ -96,7 +95,3 @@ refusedLine number = refusedWord ++ decimalDigits number ++ newline
 -- a text of at most 64 bytes as a line: zeros after it, and how many bytes it has
 unfoldable pub lineOf : List ℕ → Line
 lineOf t = record { bytes = t ++ replicate (64 - length t) 0; count = length t }
-
--- a line and then the text s
-abbrev pub followed : Line → List ℕ → Line
-followed l s = record { bytes = sets (l .bytes) (l .count) s; count = l .count + length s }

@@ -5,11 +5,12 @@ ghost use mathlib.Core.Path.{_≡_};
 ghost use Prim.Native.Nat.{_+_, _≤_};
 ghost use lib.ListN.{length};
 ghost use Rattle.text.specs.Digits.{decimalDigits};
-ghost use Rattle.lines.specs.Lines.{floatDigits, lineOf, followed};
+ghost use Rattle.lines.specs.Lines.{floatDigits, lineOf};
+ghost use Rattle.lines.specs.Needs.{followed};
 
 impl Line {
     // An empty line.
-    pub fn empty() -> Line
+    pub(crate) fn empty() -> Line
         ensures { λ r. ⌜ r ≡ lineOf [] ⌝ }
     {
         Line {
@@ -19,7 +20,7 @@ impl Line {
     }
 
     // This line and the text s.
-    pub fn with(self, s: &[u8]) -> Line
+    pub(crate) fn with(self, s: &[u8]) -> Line
         requires { ⌜ self .count + length (now s) ≤ 64 ⌝ }
         ensures { λ r. ⌜ r ≡ followed self (now (s .entry)) ⌝ }
     {
@@ -32,7 +33,7 @@ impl Line {
     }
 
     // This line and the decimal digits of n.
-    pub fn with_decimal(self, n: u32) -> Line
+    pub(crate) fn with_decimal(self, n: u32) -> Line
         requires { ⌜ self .count + 10 ≤ 64 ⌝ }
         ensures { λ r. ⌜ r ≡ followed self (decimalDigits n) ⌝ }
     {
@@ -42,7 +43,7 @@ impl Line {
     }
 
     // This line and the eight hexadecimal digits of the bits of x.
-    pub fn with_float(self, x: f32) -> Line
+    pub(crate) fn with_float(self, x: f32) -> Line
         requires { ⌜ self .count + 8 ≤ 64 ⌝ }
         ensures { λ r. ⌜ r ≡ followed self (floatDigits x) ⌝ }
     {

@@ -6,7 +6,7 @@ use Prim.Native.Nat.{ℕ, zero, suc, _+_, _*_, _%_, _≤_}
 use native.Mathlib.Omega.{arith}
 use lib.Ieee.{Float, nan}
 use lib.ListN.{length, take, replicate, length-replicate, getD-replicate}
-use lib.Seq.{length-take-le, take-at}
+use lib.Seq.{take-at}
 use borrow.Author.Tests.{le-leb, leb-true, eq-eqb}
 use Rattle.float.specs.Arithmetic.{0f}
 use Rattle.float.specs.Column.{floatAt}
@@ -28,30 +28,22 @@ use Rattle.solve.specs.declared.SolveStats.{SolveStats}
 use Rattle.solve.specs.Runs.{run}
 use Rattle.solve.specs.Answers.{runOf, solveAnswer}
 use Rattle.solve.proofs.Readings.{none-without-clusters, run-ended}
-use Rattle.file.specs.declared.Column.{Column}
 use Rattle.file.specs.declared.Counts.{Counts}
 use Rattle.file.specs.Blocks.{countsIn, endOf, albedos, areas, directs, clusterAreas, firsts, memberCounts, members}
 use Rattle.file.specs.Blocks.{rowStarts, linkClusters, linkWeights}
-use Rattle.file.specs.Columns.{numbersOf, floatsOf, numbersRead, floatsRead, inside}
+use Rattle.file.specs.Columns.{floatsOf, numbersRead, floatsRead}
 use Rattle.file.specs.Rooms.{clustersOfFile, rowsOfFile, roomOfFile, boxOfFile}
-use Rattle.file.specs.Checks.{formed}
-use Rattle.file.proofs.Entries.{floats-length, read-floats-exact, read-numbers-exact}
-use Rattle.file.proofs.Accepted.{passed, file-ends, solve-accepts, has-albedos, has-areas, has-directs, has-cluster-areas, has-firsts}
+use Rattle.file.proofs.Entries.{floats-length, floats-in, numbers-in}
+use Rattle.file.proofs.Accepted.{solve-accepts, has-albedos, has-areas, has-directs, has-cluster-areas, has-firsts}
 use Rattle.file.proofs.Accepted.{has-member-counts, has-members, has-row-starts, has-link-clusters, has-link-weights}
 use Rattle.report.specs.Light.{startLight, runOfFile, gridFits}
 use Rattle.report.specs.Report.{reportRefusal}
 use Rattle.report.specs.Needs.{madeBy, SurfelsCut, ClustersCut, RowsCut}
+use Rattle.report.proofs.Fitting.{tests-passed, end-fits, cut-length}
 
 -- ---- a file that is accepted
 
 module _ (b : List ℕ) (e : reportRefusal b ≡ 0) where
-  pub report-formed : formed b maxProgramFile ≡ true
-  report-formed = passed b maxProgramFile (gridFits (boxOfFile b)) e .formed-passed
-
-  -- it has no more words than a program has places
-  pub report-short : endOf (countsIn b) ≤ 16384
-  report-short = let h = file-ends b maxProgramFile report-formed in omega (arith, h .0, h .1)
-
   -- a solve takes its room
   taken : let c = countsIn b in Answered (roomOfFile b) (c .limit) (3 * c .surfels) (3 * c .surfels) (3 * c .clusters)
   taken =
@@ -172,21 +164,6 @@ file-solved b e s h p =
 
 -- ---- the columns that were read
 
--- into a list of its length, by the counts that were handed
-floats-in : (b : List ℕ) {c : Counts} (col : Counts → Column) (l : List Float) {m : List Float} → c ≡ countsIn b → inside b (col (countsIn b)) ≡ true
-    → length l ≡ col c .width * col c .count → m ≡ floatsRead b (col c) l → m ≡ floatsOf b (col (countsIn b))
-floats-in b col l e h k p =
-    p
-    ∙ ap (λ (x : Counts). floatsRead b (col x) l) e
-    ∙ read-floats-exact b (col (countsIn b)) l h (subst (λ (x : Counts). length l ≡ col x .width * col x .count) e k)
-
-numbers-in : (b : List ℕ) {c : Counts} (col : Counts → Column) (l : List ℕ) {m : List ℕ} → c ≡ countsIn b → inside b (col (countsIn b)) ≡ true
-    → length l ≡ col c .count → m ≡ numbersRead b (col c) l → m ≡ numbersOf b (col (countsIn b))
-numbers-in b col l e h k p =
-    p
-    ∙ ap (λ (x : Counts). numbersRead b (col x) l) e
-    ∙ read-numbers-exact b (col (countsIn b)) l h (subst (λ (x : Counts). length l ≡ col x .count) e k)
-
 -- the counts as a solve takes them
 pub record Widened (c : Counts) (n nc members links limit : ℕ) : Type 0 where
   pub surfels-wide : n ≡ c .surfels
@@ -211,7 +188,7 @@ pub solved : (b : List ℕ) {c : Counts} {light direct irr rad albedo area : Lis
 unfolding startLight roomOfFile clustersOfFile rowsOfFile
 solved b {c} {light} {direct} {irr} {rad} {albedo} {area} {clusterArea} {first} {count} {member} {scratch} {starts} {cluster} {weight} e q surfels clusters rows reads reads₂ reads₃ set w
     solving made-by =
-    let f = report-formed b e in
+    let f = tests-passed b e .formed-passed in
     let g : maxProgramFile ≤ maxFile = omega arith in
     let n : 3 * c .surfels ≡ 3 * countsIn b .surfels = ap (λ (x : Counts). 3 * x .surfels) q in
     let nc : 3 * c .clusters ≡ 3 * countsIn b .clusters = ap (λ (x : Counts). 3 * x .clusters) q in
@@ -242,13 +219,9 @@ solved b {c} {light} {direct} {irr} {rad} {albedo} {area} {clusterArea} {first} 
 
 -- ---- columns cut from k places
 
--- the first m of k places
-pub cut-length : {A : Type 0} (k m : ℕ) (x : A) → m ≤ k → length (take m (replicate k x)) ≡ m
-cut-length k m x h = length-take-le m (replicate k x) (rw (length-replicate k x) h)
-
 -- the counts of a file that is accepted
 pub counts-short : {c : Counts} (b : List ℕ) → reportRefusal b ≡ 0 → c ≡ countsIn b → endOf c ≤ 16384
-counts-short b e q = rw q (report-short b e)
+counts-short b e q = rw q (end-fits b e)
 
 -- the columns of a solve, each of the length of its need
 module _ (c : Counts) (k : ℕ) (short : endOf c ≤ k) where

@@ -53,15 +53,18 @@ take-replicate zero m a h = refl
 take-replicate (suc n) zero a h = absurd (omega arith)
 take-replicate {A} (suc n) (suc m) a h = ap (λ (l : List A). a ∷ l) (take-replicate n m a (omega arith))
 
+pub cut-length : {A : Type 0} (m n : ℕ) (a : A) → n ≤ m → length (take n (replicate m a)) ≡ n
+cut-length m n a h = length-take-le n (replicate m a) (rw (length-replicate m a) h)
+
 pub front-length : {A : Type 0} (n m : ℕ) (a : A) → n ≤ m → n ≡ length (take n (replicate m a))
-front-length n m a h = sym (length-take-le n (replicate m a) (omega (arith, length-replicate m a)))
+front-length n m a h = sym (cut-length m n a h)
 
 -- the columns that a reading is lent, each the front of a list of `top` places
 pub grid-cut : (top : ℕ) {k : Counts} {y : ProbeBox} (irr : List Float) (n m : ℕ) → n ≡ k .surfels → m ≡ cells (dimsOf (y .lo) (y .hi) (y .cell))
     → 3 * n ≤ top → m + 1 ≤ top → length irr ≡ top
     → GridCut k y (take (3 * n) irr) (take (3 * n) (replicate top 0f)) (take (3 * n) (replicate top 0f)) (take (m + 1) (replicate top 0)) (take n (replicate top 0))
 grid-cut top irr n m p q h i l =
-    let cut : length (take (3 * n) (replicate top 0f)) ≡ 3 * n = sym (front-length (3 * n) top 0f h) in
+    let cut : length (take (3 * n) (replicate top 0f)) ≡ 3 * n = cut-length top (3 * n) 0f h in
     record {
       irr-cut = length-take-le (3 * n) irr (omega arith) ∙ ap (λ (j : ℕ). 3 * j) p;
       p-cut = cut ∙ ap (λ (j : ℕ). 3 * j) p;
@@ -73,11 +76,11 @@ grid-cut top irr n m p q h i l =
 pub probes-cut : (top : ℕ) {k : Counts} (n : ℕ) → n ≡ k .probes → 3 * n ≤ top
     → ProbesCut k (take (3 * n) (replicate top 0f)) (take (3 * n) (replicate top 0f)) (take n (replicate top 0)) (take (3 * n) (replicate top 0f))
 probes-cut top n p h =
-    let cut : length (take (3 * n) (replicate top 0f)) ≡ 3 * n = sym (front-length (3 * n) top 0f h) in
+    let cut : length (take (3 * n) (replicate top 0f)) ≡ 3 * n = cut-length top (3 * n) 0f h in
     record {
       p-cut = cut ∙ ap (λ (j : ℕ). 3 * j) p;
       normals-cut = cut ∙ ap (λ (j : ℕ). 3 * j) p;
-      seen-cut = sym (front-length {A = ℕ} n top 0 (omega arith)) ∙ p;
+      seen-cut = cut-length {A = ℕ} top n 0 (omega arith) ∙ p;
       light-cut = cut ∙ ap (λ (j : ℕ). 3 * j) p;
     }
 

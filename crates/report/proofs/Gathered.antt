@@ -28,24 +28,18 @@ use Rattle.surfel.specs.Answers.{seenNumber, seenLight, gatherAllAnswer}
 use Rattle.surfel.specs.Checks.{radiusWithin, columnsHold, pointsWithin, probesLent, refusal, allRefusal}
 use Rattle.surfel.specs.Gathering.{surfelsOf}
 use Rattle.transfer.specs.Checks.{floatsFit}
-use Rattle.file.specs.declared.Column.{Column}
 use Rattle.file.specs.declared.Counts.{Counts}
 use Rattle.file.specs.declared.ProbeBox.{ProbeBox}
 use Rattle.file.specs.Blocks.{countsIn, points, normals, probePoints, probeNormals}
-use Rattle.file.specs.Columns.{floatsOf, inside, floatsRead}
+use Rattle.file.specs.Columns.{floatsOf, floatsRead}
 use Rattle.file.specs.Checks.{boxed, floatsPass}
 use Rattle.file.specs.Rooms.{roomOfFile, pointsOfFile, normalsOfFile, boxOfFile, probesOfFile}
 use Rattle.file.proofs.Accepted.{has-points, has-normals, has-probe-points, has-probe-normals}
-use Rattle.file.proofs.Entries.{floats-length, read-floats-exact}
+use Rattle.file.proofs.Entries.{floats-length, floats-in}
 use Rattle.report.specs.Light.{runOfFile, gridOfFile, surfelsOfFile, readingOfFile}
 use Rattle.report.specs.Report.{reportRefusal}
 use Rattle.report.specs.Needs.{GridCut, ProbesCut}
 use Rattle.report.proofs.Fitting.{tests-passed, end-fits}
-
--- a column that was read into a list of its length, with the counts as they were read
-read-column : (b : List ℕ) (col : Counts → Column) {k : Counts} (l : List Float) {m : List Float} → k ≡ countsIn b → inside b (col (countsIn b)) ≡ true
-    → length l ≡ col k .width * col k .count → m ≡ floatsRead b (col k) l → m ≡ floatsOf b (col (countsIn b))
-read-column b col l p h n e = rw (e, p) (read-floats-exact b (col (countsIn b)) l h (rw p at n))
 
 -- a list of three floats for each of n holds n vectors
 three-held : (l : List Float) (n : ℕ) → length l ≡ 3 * n → holds (length l) n 3 ≡ true
@@ -189,10 +183,10 @@ module _ (b : List ℕ) (e : reportRefusal b ≡ 0) {k : Counts} {y : ProbeBox} 
   unfolding gridOfFile surfelsOfFile probesOfFile
   gathered n-is count-is p-is facing-is probes-are probes-facing build gather =
       let f = tests-passed b e .formed-passed in
-      let p = read-column b points p₀ counts (has-points b maxProgramFile f (omega arith)) (gridded .p-cut) p-is in
-      let m = read-column b normals normals₀ counts (has-normals b maxProgramFile f (omega arith)) (gridded .normals-cut) facing-is in
-      let q = read-column b probePoints probes₀ counts (has-probe-points b maxProgramFile f (omega arith)) (probed .p-cut) probes-are in
-      let a = read-column b probeNormals facing₀ counts (has-probe-normals b maxProgramFile f (omega arith)) (probed .normals-cut) probes-facing in
+      let p = floats-in b points p₀ counts (has-points b maxProgramFile f (omega arith)) (gridded .p-cut) p-is in
+      let m = floats-in b normals normals₀ counts (has-normals b maxProgramFile f (omega arith)) (gridded .normals-cut) facing-is in
+      let q = floats-in b probePoints probes₀ counts (has-probe-points b maxProgramFile f (omega arith)) (probed .p-cut) probes-are in
+      let a = floats-in b probeNormals facing₀ counts (has-probe-normals b maxProgramFile f (omega arith)) (probed .normals-cut) probes-facing in
       let g = rw (counts, box) at gridded in
       let d = rw counts at probed in
       let lists = built-lists b e (rw (n-is, counts, box, p, g .starts-cut, g .items-cut) at build) in

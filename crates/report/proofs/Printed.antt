@@ -23,7 +23,7 @@ use Rattle.lines.specs.Lines.{refusedLine}
 use Rattle.lines.proofs.Widths.{counts-width, bounces-width, probe-width, refused-width}
 use Rattle.report.specs.Light.{gridFits, runOfFile, readingOfFile}
 use Rattle.report.specs.Report.{readingLine, headLines, linesOf, report, reportRefusal, maxReport}
-use Rattle.report.proofs.Texts.{lineAt, rows-within, lines-read}
+use Rattle.report.proofs.Texts.{lineAt, rows-within, lines-read, reading-line}
 
 -- the report on a file that is accepted is its lines, and on any other the number that refuses it
 pub report-lines : (b : List ℕ) → reportRefusal b ≡ 0 → report b ≡ linesOf b
@@ -55,7 +55,7 @@ lines-fit b e =
     let q = runOfFile b in
     let h = head-width (countsIn b) (q .bounces) (q .last) in
     let w = rows-within (λ i. readingLine i (readingOfFile b i)) 45 (countsIn b .probes)
-    (λ i k. let r = readingOfFile b i in probe-width i (eqb (seenNumber r) 1) (seenLight r) (omega arith)) in
+    (λ i k. let r = readingOfFile b i in rw (← reading-line i r) (probe-width i (eqb (seenNumber r) 1) (seenLight r) (omega arith))) in
     rw length-append (omega arith)
 
 -- a report is never longer than its need

@@ -14,6 +14,7 @@ use Rattle.vector.proofs.Stored.{sets-append, rows-more}
 use Rattle.accept.specs.Tables.{numberAt}
 use Rattle.surfel.specs.Answers.{seenNumber, seenLight}
 use Rattle.surfel.specs.declared.Reading.{Reading}
+use Rattle.surfel.specs.declared.Reading.the-variants.{Seen, Unseen}
 use Rattle.lines.specs.declared.Line.{Line}
 use Rattle.lines.specs.Lines.{probeLine, lineOf}
 use Rattle.lines.proofs.Widths.{line-text, line-length, probe-short}
@@ -78,9 +79,14 @@ probe-stored seen light i text at q p f s u =
 pub places-kept : (g : ℕ → ℕ) (n m : ℕ) {l : List ℕ} → n ≤ m → l ≡ filled g n (replicate m 0) → length l ≡ m
 places-kept g n m h e = let r = length-replicate {A = ℕ} m 0 in rw (e, length-filled g n (replicate m 0) (omega arith)) r
 
+-- what is written of a reading gives its line
+pub reading-line : (i : ℕ) (r : Reading) → probeLine i (eqb (seenNumber r) 1) (seenLight r) ≡ readingLine i r
+reading-line i (Seen light) = refl
+reading-line i Unseen = refl
+
 -- where the readings were written, the lines are those of the readings
 pub lines-read : (f : ℕ → Reading) (n : ℕ) (s : List ℕ) (l : List Float) {seen : List ℕ} {light : List Float}
     → seen ≡ filled (λ i. seenNumber (f i)) n s → light ≡ written (λ i. seenLight (f i)) n l
     → rows (lineAt seen light) n ≡ rows (λ i. readingLine i (f i)) n
 lines-read f n s l p q =
-    rows-same _ _ n (λ i h. rw (p, q, at-filled (λ i. seenNumber (f i)) n i s 0 h, at-written (λ i. seenLight (f i)) n i l h))
+    rows-same _ _ n (λ i h. rw (p, q, at-filled (λ i. seenNumber (f i)) n i s 0 h, at-written (λ i. seenLight (f i)) n i l h) (reading-line i (f i)))

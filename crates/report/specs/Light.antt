@@ -1,9 +1,8 @@
--- The light in a file's room: document 01, 'The room file and `roomlight`' (resets, solves, reads the probes). Each step is the definition of the crate that makes it. Definitions only.
+-- The light in a file's room: document 01, 'The room file and `roomlight`' (resets, solves, reads the probes). The run, the grid and the readings are those of the crates that make them. Definitions only.
 use mathlib.Core.Bool.{Bool}
 use mathlib.Core.List.{List}
 use Prim.Native.Nat.{ℕ, _+_, _*_}
 use lib.Dec.{ltb}
-use lib.Ieee.{Float}
 use lib.ListN.{replicate}
 use Rattle.float.specs.Arithmetic.{_/f_, 0f, 1f}
 use Rattle.grid.specs.Building.{gridStarts, gridItems}
@@ -26,7 +25,7 @@ startLight b = lightOf (replicate (3 * countsIn b .surfels) 0f) (roomOfFile b .d
 unfoldable pub runOfFile : List ℕ → Run
 runOfFile b = run (roomOfFile b) (countsIn b .limit) (startLight b)
 
--- the places that a program has for the starts of a grid
+-- the places that `roomlight` has for the starts of a grid
 abbrev pub maxStarts : ℕ
 maxStarts = 16384
 

@@ -1,15 +1,16 @@
 -- What `roomlight` prints of a file: document 01, 'The room file and `roomlight`'. Definitions only.
-use mathlib.Core.Bool.{Bool}
+use mathlib.Core.Bool.{true, false}
 use mathlib.Core.List.{List, [], _∷_, _++_}
 use Prim.Native.Nat.{ℕ}
-use lib.Dec.{leb, eqb}
+use lib.Dec.{leb}
 use lib.Ieee.{Float}
 use lib.ListN.{length, drop}
 use Rattle.accept.specs.Limits.{maxProgramFile}
 use Rattle.accept.specs.Refusal.{answered, firstFailed}
 use Rattle.vector.specs.Flat.{rows}
-use Rattle.surfel.specs.Answers.{seenNumber, seenLight}
+use Rattle.vector.specs.Vector.{zeroVec}
 use Rattle.surfel.specs.declared.Reading.{Reading}
+use Rattle.surfel.specs.declared.Reading.the-variants.{Seen, Unseen}
 use Rattle.solve.specs.Runs.{settled}
 use Rattle.file.specs.declared.Counts.{Counts}
 use Rattle.file.specs.Blocks.{countsIn}
@@ -20,9 +21,10 @@ use Rattle.report.specs.declared.ReportAnswer.{ReportAnswer}
 use Rattle.report.specs.declared.ReportAnswer.the-variants.{Refused, Done}
 use Rattle.report.specs.Light.{runOfFile, gridFits, readingOfFile}
 
--- the line of a probe, by its reading
+-- the line of a probe, by its reading; an unseen one has zeros for light
 abbrev pub readingLine : ℕ → Reading → List ℕ
-readingLine i r = probeLine i (eqb (seenNumber r) 1) (seenLight r)
+readingLine i (Seen light) = probeLine i true light
+readingLine i Unseen = probeLine i false zeroVec
 
 -- the lines of the counts and of a run that made these bounces and ended with this change
 unfoldable pub headLines : Counts → ℕ → Float → List ℕ

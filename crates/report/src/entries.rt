@@ -20,9 +20,12 @@ ghost use Rattle.report.specs.Report.{linesOf, report, reportRefusal, ma
 // Bytes that a report needs at most.
 pub const MAX_REPORT: usize = 131_072;
 
+// Places that a report has for the starts of a grid.
+const MAX_STARTS: usize = 16_384;
+
 // Writes what `roomlight` prints of the file to the front of text, and answers how many bytes it is;
 // or refuses with 4, and then writes nothing, where text is shorter than MAX_REPORT. The number that
-// refuses a file is in the text.
+// refuses a file is in the text. The call works in local arrays, on some MB of stack.
 pub fn room_report(bytes: &[u8], text: &mut [u8]) -> ReportAnswer
     ensures { λ r. ⌜ (r, now (text .exit)) ≡ reportAnswer (now (bytes .entry)) (now (text .entry)) ⌝ }
 {
@@ -63,9 +66,9 @@ fn write_lines(bytes: &[u8], text: &mut [u8]) -> usize
     put_probes(text, at, wide(c.probes), &seen, &light)
 }
 
-// Whether a program has places for the starts of a grid over this box.
+// Whether there are places for the starts of a grid over this box.
 fn grid_fits(x: ProbeBox) -> bool
     ensures { λ r. ⌜ r ≡ gridFits x ⌝ }
 {
-    cells(x.lo, x.hi, x.cell) < 16384
+    cells(x.lo, x.hi, x.cell) < MAX_STARTS
 }

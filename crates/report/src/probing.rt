@@ -55,7 +55,8 @@ pub fn read_file(bytes: &[u8], c: Counts, x: ProbeBox, irr: [f32; 16384]) -> Rea
     Readings { seen, light }
 }
 
-// The readings in these columns, all of the length of their need, those of the grid zeros.
+// The readings in these columns, all of the length of their need, those of the grid zeros. Neither the
+// grid nor the readings are refused, since the file is accepted.
 fn read_in(
     bytes: &[u8],
     c: Counts,

@@ -66,7 +66,8 @@ pub fn solve_file(bytes: &[u8], c: Counts) -> Solved
     }
 }
 
-// The solve in these columns, all of the length of their need.
+// The solve in these columns, all of the length of their need. Neither the reset nor the solve is
+// refused, since the file is accepted.
 fn solve_in(
     bytes: &[u8],
     c: Counts,
@@ -92,7 +93,7 @@ fn solve_in(
     requires { ⌜ RowsCut c (now starts) (now cluster) (now weight) ⌝ }
     ensures { λ r. ⌜ runOf r (lightOut irr rad) ≡ runOfFile (now (bytes .entry)) ⌝ }
 {
-    file::read_light(bytes, c, albedo, area, light);
+    file::read_surfaces(bytes, c, albedo, area, light);
     file::read_clusters(bytes, c, cluster_area, first, count, member);
     file::read_rows(bytes, c, starts, cluster, weight);
     reset(light, direct, irr, rad);

@@ -1,8 +1,7 @@
 -- The columns that a room file is read into: document 01, 'The room file and `roomlight`' and 'What changes shape' (lent slices). Definitions only.
 use mathlib.Core.List.{List}
 use Prim.Native.Nat.{ℕ}
-use denote.Ref.{RefT, now}
-use denote.Triple.Both.{Both}
+use denote.Ref.{now}
 use lib.Ieee.{Float}
 use Rattle.vector.specs.Flat.{Slice}
 

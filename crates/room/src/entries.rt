@@ -32,7 +32,11 @@ pub fn room_read(
     probe_p: &mut [f32],
     probe_normals: &mut [f32],
 ) -> ReadAnswer
-    ensures { λ r. ⌜ (r, columnsOut p normals albedo area direct «cluster_area» first count member starts «link_cluster» «link_weight» «probe_p» «probe_normals»)
+    ensures { λ r. ⌜ (
+      r,
+      columnsOut p normals albedo area direct «cluster_area» first count member starts «link_cluster» «link_weight» «probe_p»
+          «probe_normals»,
+    )
         ≡ roomReadAnswer (now (bytes .entry))
         (columnsIn p normals albedo area direct «cluster_area» first count member starts «link_cluster» «link_weight» «probe_p» «probe_normals») ⌝ }
 {

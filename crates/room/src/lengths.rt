@@ -25,7 +25,8 @@ pub fn columns_hold(
     probe_normals: &[f32],
 ) -> bool
     ensures { λ r. ⌜ r
-        ≡ columnsHold c (columnsIn p normals albedo area direct «cluster_area» first count member starts «link_cluster» «link_weight» «probe_p» «probe_normals») ⌝ }
+        ≡ columnsHold c
+        (columnsIn p normals albedo area direct «cluster_area» first count member starts «link_cluster» «link_weight» «probe_p» «probe_normals») ⌝ }
 {
     let n = wide(c.surfels);
     let nc = wide(c.clusters);

@@ -1,7 +1,7 @@
 // The columns of the surfels.
 use file::Counts;
-use file::read_light;
 use file::read_points;
+use file::read_surfaces;
 ghost use mathlib.Core.Path.{_≡_};
 ghost use Rattle.file.specs.Blocks.{points, normals, albedos, areas, directs};
 ghost use Rattle.file.specs.Columns.{floatsRead};
@@ -23,5 +23,5 @@ pub fn read_surfels(
     ensures { λ _. ⌜ now (direct .exit) ≡ floatsRead (now (bytes .entry)) (directs c) (now (direct .entry)) ⌝ }
 {
     read_points(bytes, c, p, facing);
-    read_light(bytes, c, albedo, area, direct);
+    read_surfaces(bytes, c, albedo, area, direct);
 }

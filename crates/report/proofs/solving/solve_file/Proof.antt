@@ -2,7 +2,8 @@
 use mathlib.Core.Path.{sym, ap, _∙_}
 use native.Mathlib.Omega.{arith}
 use borrow.Author.Needs.{needs}
-use Rattle.report.proofs.Bounced.{cut-length, counts-short, surfels-cut, clusters-cut, rows-cut, front-left}
+use Rattle.report.proofs.Fitting.{cut-length}
+use Rattle.report.proofs.Bounced.{counts-short, surfels-cut, clusters-cut, rows-cut, front-left}
 use Rattle.report.proofs.solving.solve_file.Statement.{statement}
 use Rattle.report.proofs.solving.solve_file.Tie as tie
 
