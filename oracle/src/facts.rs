@@ -309,6 +309,20 @@ fn the_smallest_file() {
     assert!(reports::report(&room.bytes()).starts_with("surfels 0 "));
 }
 
+/// "a lent slice shorter than its need": room Q has one surfel, and so two row starts, and two probes.
+#[test]
+fn the_columns_of_q() {
+    let need = [3, 3, 3, 1, 3, 1, 1, 1, 1, 2, 1, 1, 6, 6];
+    assert_eq!(room_refusals::needs(&RoomFile::q()), need);
+    let number = |lent| room_refusals::read_into(&bytes_of(&FILE_Q), &lent).err();
+    assert_eq!(number(need), None);
+    for column in 0..14 {
+        let mut lent = need;
+        lent[column] -= 1;
+        assert_eq!(number(lent), Some(4));
+    }
+}
+
 /// The number that refuses a file of more than 65,536 bytes by the limits of any file, and 1 by those
 /// of `roomlight`; 0 where no number does.
 fn number_of(room: &RoomFile) -> u32 {

@@ -5,12 +5,14 @@
 mod answers;
 mod cases;
 mod grid_refusals;
+mod held_columns;
 mod held_rooms;
 mod placement_cases;
 mod placement_refusals;
 mod placements;
 mod queries;
 mod random;
+mod read_cases;
 mod readings;
 mod refusals;
 mod reports;
@@ -79,6 +81,10 @@ fn main() -> io::Result<()> {
     let mut held = Held::new();
     write_text(&crates.join("replay_room"), &room_cases::all(), |case| {
         held.printed(case)
+    })?;
+    let mut held = held_columns::Held::new();
+    write(&crates.join("replay_read"), &read_cases::all(), |case| {
+        held.answer(case)
     })?;
     write_rooms(Path::new(&rooms), &crates.join("roomlight"))
 }

@@ -13,17 +13,17 @@ mod rooms;
 mod several;
 mod sizes;
 
-use crate::cases::{others, Case};
-use crate::held_rooms::Held;
+use crate::cases::Case;
+use crate::held_rooms::{self, Held};
 use crate::random::Random;
 use crate::room_files::{Patch, Probe, RoomFile};
 use crate::sample_rooms;
 use interflect::Vec3;
 
-const NAN: f32 = f32::NAN;
-const INF: f32 = f32::INFINITY;
-const LEAST: f32 = f32::from_bits(1);
-const UP: Vec3 = Vec3::new(0.0, 0.0, 1.0);
+pub const NAN: f32 = f32::NAN;
+pub const INF: f32 = f32::INFINITY;
+pub const LEAST: f32 = f32::from_bits(1);
+pub const UP: Vec3 = Vec3::new(0.0, 0.0, 1.0);
 
 /// All cases of crates/replay_room, in the order of its file stdin.
 pub fn all() -> Vec<Case> {
@@ -47,20 +47,20 @@ pub fn all() -> Vec<Case> {
 }
 
 /// The words of the header that say where each block begins.
-const SURFELS: usize = 7;
-const CLUSTERS: usize = 8;
-const MEMBERS: usize = 9;
-const STARTS: usize = 10;
-const LINKS: usize = 11;
-const PROBES: usize = 12;
+pub const SURFELS: usize = 7;
+pub const CLUSTERS: usize = 8;
+pub const MEMBERS: usize = 9;
+pub const STARTS: usize = 10;
+pub const LINKS: usize = 11;
+pub const PROBES: usize = 12;
 
 /// Where word k of a block stands among a file's words.
-fn place(words: &[u32], block: usize, k: usize) -> usize {
+pub fn place(words: &[u32], block: usize, k: usize) -> usize {
     words[block] as usize / 4 + k
 }
 
 /// These words with other ones at some places.
-fn edited(words: &[u32], edits: &[(usize, u32)]) -> Vec<u32> {
+pub fn edited(words: &[u32], edits: &[(usize, u32)]) -> Vec<u32> {
     let mut words = words.to_vec();
     for &(place, word) in edits {
         words[place] = word;
@@ -68,7 +68,7 @@ fn edited(words: &[u32], edits: &[(usize, u32)]) -> Vec<u32> {
     words
 }
 
-fn patch(p: Vec3, albedo: f32, area: f32, direct: f32) -> Patch {
+pub fn patch(p: Vec3, albedo: f32, area: f32, direct: f32) -> Patch {
     Patch {
         p,
         n: UP,
@@ -78,7 +78,7 @@ fn patch(p: Vec3, albedo: f32, area: f32, direct: f32) -> Patch {
     }
 }
 
-fn probe(x: f32, y: f32, z: f32) -> Probe {
+pub fn probe(x: f32, y: f32, z: f32) -> Probe {
     Probe {
         p: Vec3::new(x, y, z),
         n: UP,
@@ -124,25 +124,11 @@ impl Script {
         printed
     }
 
-    /// Makes the file begin with these words: lines for the places that hold other ones, after a line
-    /// that clears all where that makes fewer bytes.
+    /// Makes the file begin with these words.
     fn file(&mut self, words: &[u32]) {
-        let held = self.words();
-        let zeros = vec![0; held.len()];
-        let (over, anew) = (puts(&held, words), puts(&zeros, words));
-        let clears = cost(&anew) + 15 < cost(&over);
-        if clears {
-            self.line("clear", vec![0]);
+        for case in held_rooms::lines(&self.held.bytes, words) {
+            self.line(case.name, case.operands);
         }
-        for operands in if clears { anew } else { over } {
-            self.line("put", operands);
-        }
-    }
-
-    /// The words that the file holds.
-    fn words(&self) -> Vec<u32> {
-        let four = |bytes: &[u8]| u32::from_le_bytes([bytes[0], bytes[1], bytes[2], bytes[3]]);
-        self.held.bytes.chunks_exact(4).map(four).collect()
     }
 
     /// The report of so many bytes of a file that begins with these words.
@@ -178,16 +164,4 @@ impl Script {
         self.file(words);
         self.line("short", vec![length as u32, space])
     }
-}
-
-/// The operands of the lines that put these words where other words stand.
-fn puts(held: &[u32], words: &[u32]) -> Vec<Vec<u32>> {
-    let line = |first: usize, words: &[u32]| [&[4 * first as u32], words].concat();
-    let ranges = others(held, words).into_iter();
-    ranges.map(|r| line(r.start, &words[r.clone()])).collect()
-}
-
-/// How many bytes the lines of these operands have.
-fn cost(puts: &[Vec<u32>]) -> usize {
-    puts.iter().map(|operands| 4 + 9 * operands.len()).sum()
 }

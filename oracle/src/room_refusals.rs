@@ -26,9 +26,54 @@ pub const FILE: Limits = Limits {
     starts: usize::MAX,
 };
 
-/// The room that the bytes hold, or the number that refuses them. "If several apply, the lowest number
-/// is returned." A row is asked only where those before it do not apply.
+/// The room that the bytes hold, or the number that refuses them.
 pub fn read(bytes: &[u8], limits: Limits) -> Result<RoomFile, u32> {
+    read_where(bytes, limits, |room| cells(room) < limits.starts)
+}
+
+/// The same of any file that is read into columns of which so many places are lent.
+pub fn read_into(bytes: &[u8], lent: &[usize; 14]) -> Result<RoomFile, u32> {
+    let holds = |room: &RoomFile| {
+        needs(room)
+            .iter()
+            .zip(lent)
+            .all(|(need, lent)| need <= lent)
+    };
+    read_where(bytes, FILE, holds)
+}
+
+/// "a result slice holds target, n or point entries (...; starts one more than rows or cells ...)": how
+/// many places the columns need. p, normals, albedo, area, direct; the clusters' area, first member and
+/// count; the members; the rows' starts; the links' cluster and weight; the probes' p and normals.
+pub fn needs(room: &RoomFile) -> [usize; 14] {
+    let (n, nc) = (room.surfels.len(), room.clusters.len());
+    let (links, probes) = (room.links.len(), room.probes.len());
+    let members = room.members.len();
+    [
+        3 * n,
+        3 * n,
+        3 * n,
+        n,
+        3 * n,
+        nc,
+        nc,
+        nc,
+        members,
+        n + 1,
+        links,
+        links,
+        3 * probes,
+        3 * probes,
+    ]
+}
+
+/// "If several apply, the lowest number is returned." A row is asked only where those before it do not
+/// apply. The call's own test of 4 is given.
+fn read_where(
+    bytes: &[u8],
+    limits: Limits,
+    holds: impl Fn(&RoomFile) -> bool,
+) -> Result<RoomFile, u32> {
     let counts = counts(bytes, limits).ok_or(1u32)?;
     if counts.too_many() {
         return Err(2);
@@ -36,7 +81,7 @@ pub fn read(bytes: &[u8], limits: Limits) -> Result<RoomFile, u32> {
     let room = room(bytes, counts);
     if !bounded(&room) {
         Err(3)
-    } else if cells(&room) + 1 > limits.starts {
+    } else if !holds(&room) {
         Err(4)
     } else if !in_range(&room) {
         Err(5)

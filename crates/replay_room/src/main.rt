@@ -2,7 +2,6 @@
 // nothing, or asks: then the program prints the report, the words of an answer on a line, or `unread`
 // where it knows no such line.
 mod ask;
-mod store;
 
 use libc::STDIN_FILENO;
 use replay::Words;
@@ -31,11 +30,11 @@ fn replay_lines(file: &mut [u8], report: &mut [u8], s: &[u8]) {
 fn replay_line(file: &mut [u8], report: &mut [u8], line: &[u8]) {
     let given = replay::operands(line);
     if named(line, b"clear") {
-        store::clear(file);
+        stored_file::clear(file);
         return;
     }
     if named(line, b"put") {
-        store::put(file, given);
+        stored_file::put(file, given);
         return;
     }
     answer(file, report, line, given);

@@ -1,10 +1,10 @@
--- `replay_room::store::put` is safe and ends. At most fifteen words are put, and the file keeps its length. Assumes nothing.
+-- `stored_file::put` is safe and ends. At most fifteen words are put, and the file keeps its length. Assumes nothing.
 use Prim.Native.Nat.{_-_, _≤_}
 use mathlib.Core.Path.{_≡_}
 use lib.ListN.{length}
 use borrow.Author.Needs.{needs}
-use Rattle.replay_room.proofs.store.put.Statement.{statement}
-use Rattle.replay_room.proofs.store.put.Tie as tie
+use Rattle.stored_file.proofs.put.Statement.{statement}
+use Rattle.stored_file.proofs.put.Tie as tie
 
 abbrev Inv-loop : tie.InvT-loop
 Inv-loop file₀ given w at i₀ file i = (i ≤ 15) × (at ≤ 65600) × (length file ≡ length file₀)

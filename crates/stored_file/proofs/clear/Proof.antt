@@ -1,10 +1,10 @@
--- `replay_room::store::clear` is safe and ends. The file keeps its length. Assumes nothing.
+-- `stored_file::clear` is safe and ends. The file keeps its length. Assumes nothing.
 use Prim.Native.Nat.{_-_}
 use mathlib.Core.Path.{_≡_}
 use lib.ListN.{length}
 use borrow.Author.Needs.{needs}
-use Rattle.replay_room.proofs.store.clear.Statement.{statement}
-use Rattle.replay_room.proofs.store.clear.Tie as tie
+use Rattle.stored_file.proofs.clear.Statement.{statement}
+use Rattle.stored_file.proofs.clear.Tie as tie
 
 abbrev Inv-loop : tie.InvT-loop
 Inv-loop file₀ i₀ file i = length file ≡ length file₀

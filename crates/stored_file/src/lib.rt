@@ -1,6 +1,11 @@
-// What is put into the file.
+// The bytes of a file stored line by line, for the replay programs.
+//
+// No public function has a `requires`.
 use replay::Words;
 use replay::part;
+
+// No program stores more bytes.
+const MAX_FILE: usize = 65600;
 
 // Every byte is zero.
 pub fn clear(file: &mut [u8]) {
@@ -15,7 +20,7 @@ pub fn clear(file: &mut [u8]) {
 // byte on that the first names, as far as they are given and the file has bytes.
 pub fn put(file: &mut [u8], given: Words) {
     let w = given.words;
-    let at = part(w[0] as usize, 65600);
+    let at = part(w[0] as usize, MAX_FILE);
     let mut i = 0;
     while i < 15 {
         put_word(file, at + 4 * i, w[i + 1], i + 1 < given.count);
