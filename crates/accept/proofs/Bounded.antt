@@ -1,9 +1,9 @@
 -- What a check of lengths, ranges or bounds that passed says of a slice and its entries. Assumes nothing.
-use mathlib.Core.Bool.{Bool, true, false, _&&_, and-eq-true-iff}
+use mathlib.Core.Bool.{Bool, true, false, and-eq-true-iff}
 use mathlib.Core.List.{List, [], _∷_}
 use mathlib.Core.Path.{_≡_, refl, sym, _∙_}
-use Prim.Native.Nat.{ℕ, zero, suc, _+_, _*_, _/_, _≤_, _<_}
-use native.Mathlib.Nat.{mul-zero, le-div-iff-mul-le}
+use Prim.Native.Nat.{ℕ, _*_, _/_, _≤_, _<_}
+use native.Mathlib.Nat.{add-zero, mul-zero, le-div-iff-mul-le}
 use native.Mathlib.Omega.{arith}
 use lib.Dec.{leb, ltb}
 use lib.Ieee.{Float, nan, inf, fin, le, lt, eq, neg}
@@ -17,7 +17,7 @@ use Rattle.vector.specs.Flat.{vecAt}
 use Rattle.accept.specs.Every.{every}
 use Rattle.accept.specs.Limits.{maxCoordinate}
 use Rattle.accept.specs.Ranges.{within, allWithin, floatsWithin, axis, coordinate, coordinates, point, bounds}
-use Rattle.accept.proofs.Every.{every-at, conj-each}
+use Rattle.accept.proofs.Every.{every-at, every-same, every-product, conj-each}
 
 -- a count that was checked is within its limit
 pub at-most-le : (n limit : ℕ) → atMost n limit ≡ true → n ≤ limit
@@ -85,21 +85,8 @@ floats-within-at l n each lo hi e =
 -- floats that are coordinates, three by three, are points
 pub points-by : (l : List Float) (n : ℕ) → allWithin (floatAt l) (n * 3) (neg maxCoordinate) maxCoordinate ≡ every (λ i. point (vecAt l i)) n
 unfolding allWithin every
-points-by l zero = refl
-points-by l (suc n) =
-    let a = coordinate (floatAt l (3 * n)) in
-    let b = coordinate (floatAt l (3 * n + 1)) in
-    let c = coordinate (floatAt l (3 * n + 2)) in
-    let m : suc n * 3 ≡ suc (suc (suc (3 * n))) = omega arith in
-    let k : n * 3 ≡ 3 * n = omega arith in
-    let o : suc (3 * n) ≡ 3 * n + 1 = omega arith in
-    let w : suc (3 * n + 1) ≡ 3 * n + 2 = omega arith in
-    let h = rw k at (points-by l n) in
-    rw (m, h, o, w) (three (every (λ i. point (vecAt l i)) n) a b c)
-  where
-    three : (x a b c : Bool) → ((x && a) && b) && c ≡ x && ((a && b) && c)
-    three true a b c = refl
-    three false a b c = refl
+points-by l n =
+    every-product (λ k. coordinate (floatAt l k)) n 3 ∙ every-same _ _ n (λ i h. rw (add-zero (3 * i)))
 
 -- each vector of a list of coordinates is a point
 pub coordinates-at : (l : List Float) (n : ℕ) → coordinates l n ≡ true → (i : ℕ) → i < n → point (vecAt l i) ≡ true

@@ -1,10 +1,10 @@
 -- Several tests as one: one test more at a time, and what each says where all held. Assumes nothing.
-use mathlib.Core.Bool.{Bool, true, false, _&&_, and-eq-true-iff}
+use mathlib.Core.Bool.{Bool, true, false, _&&_, and-eq-true-iff, and-true, and-assoc}
 use mathlib.Core.List.{List, [], _∷_}
 use mathlib.Core.Logic.{⊎-elim}
 use mathlib.Core.Path.{_≡_, refl, sym, _∙_}
-use Prim.Native.Nat.{ℕ, zero, suc, _+_, _<_}
-use native.Mathlib.Nat.{eq-or-lt-of-le}
+use Prim.Native.Nat.{ℕ, zero, suc, _+_, _*_, _<_}
+use native.Mathlib.Nat.{add-zero, add-suc, zero-mul, suc-mul, mul-comm, eq-or-lt-of-le}
 use native.Mathlib.Numerals.{add-one}
 use native.Mathlib.Omega.{arith}
 use Rattle.float.proofs.Signs.{clash}
@@ -64,6 +64,18 @@ pub every-same : (f g : ℕ → Bool) (n : ℕ) → ((i : ℕ) → i < n → f i
 unfolding every
 every-same f g zero h = refl
 every-same f g (suc n) h = rw (every-same f g n (λ i k. h i (omega arith)), h n (omega arith))
+
+-- a + m tests are a tests and m more
+every-split : (f : ℕ → Bool) (a m : ℕ) → every f (a + m) ≡ (every f a && every (λ j. f (a + j)) m)
+unfolding every
+every-split f a zero = rw (add-zero a) (sym (and-true (every f a)))
+every-split f a (suc m) = rw (add-suc a m, every-split f a m) (and-assoc (every f a) (every (λ j. f (a + j)) m) (f (a + m)))
+
+-- n times w tests are w tests for each of n
+pub every-product : (f : ℕ → Bool) (n w : ℕ) → every f (n * w) ≡ every (λ i. every (λ j. f (w * i + j)) w) n
+unfolding every
+every-product f zero w = rw (zero-mul w)
+every-product f (suc n) w = rw (suc-mul n w, every-split f (n * w) w, every-product f n w, mul-comm n w)
 
 -- each test of a list held
 abbrev pub Each : List Bool → Type 0

@@ -1,9 +1,9 @@
 -- The columns of a room file as lists: how long they are, what stands where, and a column that lies in its file. Assumes nothing.
-use mathlib.Core.Bool.{Bool, true, false, _&&_, and-eq-true-iff}
+use mathlib.Core.Bool.{Bool, true, false, and-eq-true-iff}
 use mathlib.Core.List.{List, [], _∷_, append-nil}
 use mathlib.Core.Path.{_≡_, refl, sym, ap, subst, _∙_}
-use Prim.Native.Nat.{ℕ, zero, suc, _+_, _*_, _≤_, _<_}
-use native.Mathlib.Nat.{add-zero, add-suc, zero-mul, suc-mul, mul-suc, mul-comm, mul-le-mul, mul-le-mul-left}
+use Prim.Native.Nat.{ℕ, suc, _+_, _*_, _≤_, _<_}
+use native.Mathlib.Nat.{mul-suc, mul-comm, mul-le-mul, mul-le-mul-left}
 use native.Mathlib.Numerals.{add-one}
 use native.Mathlib.Omega.{arith}
 use lib.Dec.{leb}
@@ -20,7 +20,7 @@ use Rattle.accept.specs.Limits.{maxFile}
 use Rattle.accept.specs.Ranges.{within, allWithin, floatsWithin}
 use Rattle.accept.specs.Tables.{numberAt, holds}
 use Rattle.accept.proofs.Bounded.{le-holds}
-use Rattle.accept.proofs.Every.{every-same, conj-each}
+use Rattle.accept.proofs.Every.{every-same, every-product, conj-each}
 use Rattle.file.specs.declared.Column.{Column}
 use Rattle.file.specs.declared.Counts.{Counts}
 use Rattle.file.specs.Words.{words, wordIn, floatIn}
@@ -156,26 +156,6 @@ module _ (b : List ℕ) (col : Column) where
       }
 
 -- ---- tests of all floats of a column, entry by entry
-
--- a + m tests are a tests and m more
-every-split : (f : ℕ → Bool) (a m : ℕ) → every f (a + m) ≡ (every f a && every (λ j. f (a + j)) m)
-unfolding every
-every-split f a zero = rw (add-zero a) (and-true (every f a))
-  where
-    and-true : (x : Bool) → x ≡ (x && true)
-    and-true true = refl
-    and-true false = refl
-every-split f a (suc m) = rw (add-suc a m, every-split f a m) (and-assoc (every f a) (every (λ j. f (a + j)) m) (f (a + m)))
-  where
-    and-assoc : (x y z : Bool) → ((x && y) && z) ≡ (x && (y && z))
-    and-assoc true y z = refl
-    and-assoc false y z = refl
-
--- n times w tests are w tests for each of n
-pub every-product : (f : ℕ → Bool) (n w : ℕ) → every f (n * w) ≡ every (λ i. every (λ j. f (w * i + j)) w) n
-unfolding every
-every-product f zero w = rw (zero-mul w)
-every-product f (suc n) w = rw (suc-mul n w, every-split f (n * w) w, every-product f n w, mul-comm n w)
 
 -- the floats of a column are in their range where those of each entry are
 pub column-within : (b : List ℕ) (col : Column) (lo hi : Float)

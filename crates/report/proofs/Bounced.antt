@@ -1,8 +1,8 @@
 -- The solve of a file that is accepted: its columns are short, it is read in full, and a reset and a solve of its room leave the light of its run. Assumes nothing.
 use mathlib.Core.Bool.{true, and-eq-true-iff}
 use mathlib.Core.List.{List, [], _∷_, _++_}
-use mathlib.Core.Path.{_≡_, refl, sym, ap, subst, _∙_}
-use Prim.Native.Nat.{ℕ, zero, suc, _+_, _*_, _%_, _≤_}
+use mathlib.Core.Path.{_≡_, sym, ap, subst, _∙_}
+use Prim.Native.Nat.{ℕ, _+_, _*_, _%_, _≤_}
 use native.Mathlib.Omega.{arith}
 use lib.Ieee.{Float, nan}
 use lib.ListN.{length, take, replicate, length-replicate, getD-replicate}
@@ -27,7 +27,7 @@ use Rattle.solve.specs.declared.SolveAnswer.{SolveAnswer}
 use Rattle.solve.specs.declared.SolveStats.{SolveStats}
 use Rattle.solve.specs.Runs.{run}
 use Rattle.solve.specs.Answers.{runOf, solveAnswer}
-use Rattle.solve.proofs.Readings.{none-without-clusters, run-ended}
+use Rattle.solve.proofs.Readings.{run-most}
 use Rattle.file.specs.declared.Counts.{Counts}
 use Rattle.file.specs.Blocks.{countsIn, endOf, albedos, areas, directs, clusterAreas, firsts, memberCounts, members}
 use Rattle.file.specs.Blocks.{rowStarts, linkClusters, linkWeights}
@@ -84,15 +84,7 @@ module _ (b : List ℕ) (e : reportRefusal b ≡ 0) where
       .1
       .0
 
--- a run makes at most its limit of bounces
-run-most : (r : Room) (m : ℕ) (l : Light) → run r m l .bounces ≤ m
-run-most r m l = most-by (r .clusters .nc) refl
-  where
-    most-by : (k : ℕ) → r .clusters .nc ≡ k → run r m l .bounces ≤ m
-    most-by zero q = rw (none-without-clusters r m l q) (omega arith)
-    most-by (suc k) q = run-ended r m l (λ z. absurd (omega arith)) .0
-
--- and that of a file that is accepted at most 4,096
+-- the run of a file that is accepted makes at most 4,096 bounces
 pub run-few : (b : List ℕ) → reportRefusal b ≡ 0 → runOfFile b .bounces ≤ maxBounces
 unfolding runOfFile
 run-few b e = let h = run-most (roomOfFile b) (countsIn b .limit) (startLight b) in omega (arith, h, counts-few b e .1)

@@ -50,6 +50,14 @@ pub run-ended : (r : Room) (m : ℕ) (l : Light) → (r .clusters .nc ≡ 0 → 
 unfolding run
 run-ended r m l h = rw (ne-eqb (r .clusters .nc) 0 h) (rw zero-add at (more-ended r m (noBounce l)))
 
+-- with clusters or without
+pub run-most : (r : Room) (m : ℕ) (l : Light) → run r m l .bounces ≤ m
+run-most r m l = most-by (r .clusters .nc) refl
+  where
+    most-by : (k : ℕ) → r .clusters .nc ≡ k → run r m l .bounces ≤ m
+    most-by zero q = rw (none-without-clusters r m l q) (omega arith)
+    most-by (suc k) q = run-ended r m l (λ z. absurd (omega arith)) .0
+
 -- a run leaves the light of as many bounces as it made
 abbrev BouncedFrom : Room → Light → Run → Type 0
 BouncedFrom r l q = q .light ≡ bounced r (q .bounces) l
