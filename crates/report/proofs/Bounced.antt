@@ -39,7 +39,7 @@ use Rattle.file.proofs.Accepted.{has-member-counts, has-members, has-row-starts
 use Rattle.report.specs.Light.{startLight, runOfFile, gridFits}
 use Rattle.report.specs.Report.{reportRefusal}
 use Rattle.report.specs.Needs.{madeBy, SurfelsCut, ClustersCut, RowsCut}
-use Rattle.report.proofs.Fitting.{tests-passed, end-fits, cut-length}
+use Rattle.report.proofs.Fitting.{tests-passed, cut-length}
 
 -- ---- a file that is accepted
 
@@ -210,10 +210,6 @@ solved b {c} {light} {direct} {irr} {rad} {albedo} {area} {clusterArea} {first} 
     rw made-by (file-solved b e scratch (clusters .scratch-cut ∙ nc) h)
 
 -- ---- columns cut from k places
-
--- the counts of a file that is accepted
-pub counts-short : {c : Counts} (b : List ℕ) → reportRefusal b ≡ 0 → c ≡ countsIn b → endOf c ≤ 16384
-counts-short b e q = rw q (end-fits b e)
 
 -- the columns of a solve, each of the length of its need
 module _ (c : Counts) (k : ℕ) (short : endOf c ≤ k) where

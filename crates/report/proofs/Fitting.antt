@@ -31,12 +31,9 @@ module _ (b : List ℕ) (e : reportRefusal b ≡ 0) where
   pub end-fits : endOf (countsIn b) ≤ 16384
   end-fits = omega (arith, file-ends b maxProgramFile (tests-passed .formed-passed))
 
-  -- the numbers of the surfels and of the probes, as they were read, three floats each
-  pub surfels-fit : {k : Counts} {n : ℕ} → k ≡ countsIn b → n ≡ k .surfels → 3 * n ≤ 16384
-  surfels-fit p q = let n-is = q ∙ ap (λ (k : Counts). k .surfels) p in omega (arith, end-fits)
-
-  pub probes-fit : {k : Counts} {n : ℕ} → k ≡ countsIn b → n ≡ k .probes → 3 * n ≤ 16384
-  probes-fit p q = let n-is = q ∙ ap (λ (k : Counts). k .probes) p in omega (arith, end-fits)
+  -- the same by the counts that were handed
+  pub counts-short : {c : Counts} → c ≡ countsIn b → endOf c ≤ 16384
+  counts-short q = rw q end-fits
 
   -- the starts of the grid, one more than its cells
   pub starts-fit : {y : ProbeBox} {m : ℕ} → y ≡ boxOfFile b → m ≡ cells (dimsOf (y .lo) (y .hi) (y .cell)) → m + 1 ≤ 16384

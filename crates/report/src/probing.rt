@@ -7,12 +7,12 @@ use grid::cells;
 use grid::grid_build;
 use surfel::gather_all;
 ghost use mathlib.Core.Path.{_≡_};
-ghost use Prim.Native.Nat.{_*_};
+ghost use Prim.Native.Nat.{_*_, _≤_};
 ghost use lib.ListN.{take, replicate};
 ghost use Rattle.float.specs.Arithmetic.{0f};
 ghost use Rattle.vector.specs.Flat.{filled, written};
 ghost use Rattle.surfel.specs.Answers.{seenNumber, seenLight};
-ghost use Rattle.file.specs.Blocks.{countsIn};
+ghost use Rattle.file.specs.Blocks.{countsIn, endOf};
 ghost use Rattle.file.specs.Rooms.{boxOfFile};
 ghost use Rattle.report.specs.Light.{runOfFile, readingOfFile};
 ghost use Rattle.report.specs.Report.{reportRefusal};
@@ -22,6 +22,7 @@ ghost use Rattle.report.specs.Needs.{GridCut, ProbesCut};
 pub fn read_file(bytes: &[u8], c: Counts, x: ProbeBox, irr: [f32; 16384]) -> Readings
     requires { ⌜ reportRefusal (now bytes) ≡ 0 ⌝ }
     requires { ⌜ c ≡ countsIn (now bytes) ⌝ }
+    requires { ⌜ endOf c ≤ 16384 ⌝ }
     requires { ⌜ x ≡ boxOfFile (now bytes) ⌝ }
     requires { ⌜ take (3 * c .surfels) irr ≡ runOfFile (now bytes) .light .irr ⌝ }
     ensures { λ r. ⌜ r .seen ≡ filled (λ i. seenNumber (readingOfFile (now (bytes .entry)) i)) (c .probes) (replicate 16384 0) ⌝ }

@@ -7,11 +7,11 @@ use solve::SolveAnswer;
 use solve::SolveStats;
 use solve::solve;
 ghost use mathlib.Core.Path.{_≡_};
-ghost use Prim.Native.Nat.{_*_};
+ghost use Prim.Native.Nat.{_*_, _≤_};
 ghost use lib.ListN.{take};
 ghost use Rattle.transfer.specs.Room.{lightOut};
 ghost use Rattle.solve.specs.Answers.{runOf};
-ghost use Rattle.file.specs.Blocks.{countsIn};
+ghost use Rattle.file.specs.Blocks.{countsIn, endOf};
 ghost use Rattle.report.specs.Light.{runOfFile};
 ghost use Rattle.report.specs.Report.{reportRefusal};
 ghost use Rattle.report.specs.Needs.{madeBy, SurfelsCut, ClustersCut, RowsCut};
@@ -20,6 +20,7 @@ ghost use Rattle.report.specs.Needs.{madeBy, SurfelsCut, ClustersCut, Ro
 pub fn solve_file(bytes: &[u8], c: Counts) -> Solved
     requires { ⌜ reportRefusal (now bytes) ≡ 0 ⌝ }
     requires { ⌜ c ≡ countsIn (now bytes) ⌝ }
+    requires { ⌜ endOf c ≤ 16384 ⌝ }
     ensures { λ r. ⌜ r .bounces ≡ runOfFile (now (bytes .entry)) .bounces ⌝ }
     ensures { λ r. ⌜ r .change ≡ runOfFile (now (bytes .entry)) .last ⌝ }
     ensures { λ r. ⌜ take (3 * c .surfels) (r .irr) ≡ runOfFile (now (bytes .entry)) .light .irr ⌝ }
@@ -27,6 +28,7 @@ pub fn solve_file(bytes: &[u8], c: Counts) -> Solved
     let n = wide(c.surfels);
     let nc = wide(c.clusters);
     let links = wide(c.links);
+    let members = wide(c.members);
     let mut light = [0.0; 16384];
     let mut direct = [0.0; 16384];
     let mut irr = [0.0; 16384];
@@ -53,7 +55,7 @@ pub fn solve_file(bytes: &[u8], c: Counts) -> Solved
         &mut cluster_area[..nc],
         &mut first[..nc],
         &mut count[..nc],
-        &mut member[..wide(c.members)],
+        &mut member[..members],
         &mut scratch[..3 * nc],
         &mut starts[..n + 1],
         &mut cluster[..links],

@@ -3,16 +3,17 @@ use Prim.Native.Nat.{_≤_}
 use native.Mathlib.Omega.{arith}
 use borrow.Author.Needs.{needs}
 use Rattle.report.proofs.Bounced.{run-few}
+use Rattle.report.proofs.Fitting.{counts-short}
 use Rattle.report.proofs.Texts.{places-kept}
 use Rattle.report.proofs.Printed.{probes-few, head-width, lines-stored}
 use Rattle.report.proofs.entries.write_lines.Statement.{statement}
 use Rattle.report.proofs.entries.write_lines.Tie as tie
 
 solve-file-requires : tie.Need-solve-file-requires
-solve-file-requires c κs = (c .before .before .before .pre, c .counts-in .ensures)
+solve-file-requires c κs = let given = c .before .before .before .pre in (given, (c .counts-in .ensures, counts-short _ given (c .counts-in .ensures)))
 
 read-file-requires : tie.Need-read-file-requires
-read-file-requires c κs = (c .before .before .before .before .before .before .pre, (c .before .before .before .counts-in .ensures, (c .probe-box .ensures, c .before .before .solve-file .ensures .1 .1)))
+read-file-requires c κs = let n = c .before .before .before in let given = n .before .before .before .pre in (given, (n .counts-in .ensures, (counts-short _ given (n .counts-in .ensures), (c .probe-box .ensures, c .before .before .solve-file .ensures .1 .1))))
 
 put-head-requires : tie.Need-put-head-requires
 put-head-requires c κs = let s = c .before .before .before .before .before .before .before .before .before .before in rw (c .before .before .before .before .before .before .solve-file .ensures .0) (run-few (s .args .bytes .now) (s .pre))
