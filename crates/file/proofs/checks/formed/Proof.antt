@@ -5,27 +5,6 @@ use Rattle.file.proofs.Answered.{formed-by}
 use Rattle.file.proofs.checks.formed.Statement.{statement}
 use Rattle.file.proofs.checks.formed.Tie as tie
 
-mul-end : tie.Need-mul-end
-mul-end c = let n = c .before in omega (arith, c .end-of .ensures, n .counts-in .ok)
-
-mul-result : tie.Need-mul-result
-mul-result c = let n = c .before .before .before .before .before in omega (arith, c .surfels-from .ensures, n .counts-in .ok)
-
-mul-result-2 : tie.Need-mul-result-2
-mul-result-2 c = let n = c .before .before .before .before .before .before .before .before in omega (arith, c .clusters-from .ensures, n .counts-in .ok)
-
-mul-result-3 : tie.Need-mul-result-3
-mul-result-3 c = let n = c .before .before .before .before .before .before .before .before .before .before .before in omega (arith, c .members-from .ensures, n .counts-in .ok)
-
-mul-result-4 : tie.Need-mul-result-4
-mul-result-4 c = let n = c .before .before .before .before .before .before .before .before .before .before .before .before .before .before in omega (arith, c .starts-from .ensures, n .counts-in .ok)
-
-mul-result-5 : tie.Need-mul-result-5
-mul-result-5 c = let n = c .before .before .before .before .before .before .before .before .before .before .before .before .before .before .before .before .before in omega (arith, c .links-from .ensures, n .counts-in .ok)
-
-mul-result-6 : tie.Need-mul-result-6
-mul-result-6 c = let n = c .before .before .before .before .before .before .before .before .before .before .before .before .before .before .before .before .before .before .before .before in omega (arith, c .probes-from .ensures, n .counts-in .ok)
-
 returns : tie.Need-returns
 returns c =
     let s = c .before .before .before .before .before .before .before .before .before .before .before .before .before .before .before .before .before .before .before .before .before .before .before .before .before .before in
@@ -50,4 +29,4 @@ returns c =
     (c .word-at10 .ensures)
 
 pub formed-spec : {M : Type 1} → statement M
-formed-spec = tie.close (tie.spec (λ c κs. tt) (λ c κs. tt) mul-end (λ c κs. tt) (λ c κs. tt) (λ c κs. tt) (λ c κs. tt) mul-result (λ c κs. tt) (λ c κs. tt) (λ c κs. tt) mul-result-2 (λ c κs. tt) (λ c κs. tt) (λ c κs. tt) mul-result-3 (λ c κs. tt) (λ c κs. tt) (λ c κs. tt) mul-result-4 (λ c κs. tt) (λ c κs. tt) (λ c κs. tt) mul-result-5 (λ c κs. tt) (λ c κs. tt) (λ c κs. tt) mul-result-6 (λ c κs. tt) (λ c κs. tt) (λ c κs. tt) (λ c κs. tt) returns)
+formed-spec = tie.close (tie.spec (λ c κs. tt) (λ c κs. tt) (λ c. omega (arith, c)) (λ c κs. tt) (λ c κs. tt) (λ c κs. tt) (λ c κs. tt) (λ c. omega (arith, c)) (λ c κs. tt) (λ c κs. tt) (λ c κs. tt) (λ c. omega (arith, c)) (λ c κs. tt) (λ c κs. tt) (λ c κs. tt) (λ c. omega (arith, c)) (λ c κs. tt) (λ c κs. tt) (λ c κs. tt) (λ c. omega (arith, c)) (λ c κs. tt) (λ c κs. tt) (λ c κs. tt) (λ c. omega (arith, c)) (λ c κs. tt) (λ c κs. tt) (λ c κs. tt) (λ c. omega (arith, c .probes-from .ensures, c .before .before .before .before .before .before .before .before .before .before .before .before .before .before .before .before .before .before .before .before .counts-in .ok)) (λ c κs. tt) (λ c κs. tt) (λ c κs. tt) (λ c κs. tt) returns)

@@ -5,54 +5,10 @@ use native.Mathlib.Omega.{arith}
 use Rattle.lent_file.proofs.cutting.with_rows_cut.Statement.{statement}
 use Rattle.lent_file.proofs.cutting.with_rows_cut.Tie as tie
 
-slice-aggregate-room-read : tie.Need-slice-aggregate-room-read
-slice-aggregate-room-read c = sym (length-take-le _ _ (c .before .before .before .before .before .before .before .before .before .before .before .before .before .before .part .ensures))
-
-slice-aggregate-room-read-2 : tie.Need-slice-aggregate-room-read-2
-slice-aggregate-room-read-2 c = sym (length-take-le _ _ (c .before .before .before .before .before .before .before .before .before .before .before .before .before .before .part2 .ensures))
-
-same-length : tie.Need-same-length
-same-length c = c .before .before .before .before .before .before .before .before .before .before .before .before .before .before .before .before .before .before .before .before .before .before .before .before .before .before .before .before .before .room-read .kept .1 .0
-
-same-length-2 : tie.Need-same-length-2
-same-length-2 c = c .before .before .before .before .before .before .before .before .before .before .before .before .before .before .before .before .before .before .before .before .before .before .before .before .before .before .before .before .before .room-read .kept .1 .1 .0
-
-same-length-3 : tie.Need-same-length-3
-same-length-3 c = c .before .before .before .before .before .before .before .before .before .before .before .before .before .before .before .before .before .before .before .before .before .before .before .before .before .before .before .before .before .room-read .kept .1 .1 .1 .0
-
-same-length-4 : tie.Need-same-length-4
-same-length-4 c = c .before .before .before .before .before .before .before .before .before .before .before .before .before .before .before .before .before .before .before .before .before .before .before .before .before .before .before .before .before .room-read .kept .1 .1 .1 .1 .0
-
-same-length-5 : tie.Need-same-length-5
-same-length-5 c = c .before .before .before .before .before .before .before .before .before .before .before .before .before .before .before .before .before .before .before .before .before .before .before .before .before .before .before .before .before .room-read .kept .1 .1 .1 .1 .1 .0
-
-same-length-6 : tie.Need-same-length-6
-same-length-6 c = c .before .before .before .before .before .before .before .before .before .before .before .before .before .before .before .before .before .before .before .before .before .before .before .before .before .before .before .before .before .room-read .kept .1 .1 .1 .1 .1 .1 .0
-
-same-length-7 : tie.Need-same-length-7
-same-length-7 c = c .before .before .before .before .before .before .before .before .before .before .before .before .before .before .before .before .before .before .before .before .before .before .before .before .before .before .before .before .before .room-read .kept .1 .1 .1 .1 .1 .1 .1 .0
-
-same-length-8 : tie.Need-same-length-8
-same-length-8 c = c .before .before .before .before .before .before .before .before .before .before .before .before .before .before .before .before .before .before .before .before .before .before .before .before .before .before .before .before .before .room-read .kept .1 .1 .1 .1 .1 .1 .1 .1 .0
-
-same-length-9 : tie.Need-same-length-9
-same-length-9 c = c .before .before .before .before .before .before .before .before .before .before .before .before .before .before .before .before .before .before .before .before .before .before .before .before .before .before .before .before .before .room-read .kept .1 .1 .1 .1 .1 .1 .1 .1 .1 .0
-
-same-length-10 : tie.Need-same-length-10
-same-length-10 c = c .before .before .before .before .before .before .before .before .before .before .before .before .before .before .before .before .before .before .before .before .before .before .before .before .before .before .before .before .before .room-read .kept .1 .1 .1 .1 .1 .1 .1 .1 .1 .1 .0
-
-same-length-11 : tie.Need-same-length-11
-same-length-11 c = c .before .before .before .before .before .before .before .before .before .before .before .before .before .before .before .before .before .before .before .before .before .before .before .before .before .before .before .before .before .room-read .kept .1 .1 .1 .1 .1 .1 .1 .1 .1 .1 .1 .0
-
-same-length-12 : tie.Need-same-length-12
-same-length-12 c = c .before .before .before .before .before .before .before .before .before .before .before .before .before .before .before .before .before .before .before .before .before .before .before .before .before .before .before .before .before .room-read .kept .1 .1 .1 .1 .1 .1 .1 .1 .1 .1 .1 .1 .0
-
-same-length-13 : tie.Need-same-length-13
-same-length-13 c = omega (arith, c .before .before .before .before .before .before .before .before .before .before .before .before .before .before .before .before .before .before .before .before .before .before .before .before .before .before .before .before .before .room-read .kept .1 .1 .1 .1 .1 .1 .1 .1 .1 .1 .1 .1 .1 .0)
-
-same-length-14 : tie.Need-same-length-14
-same-length-14 c = omega (arith, c .before .before .before .before .before .before .before .before .before .before .before .before .before .before .before .before .before .before .before .before .before .before .before .before .before .before .before .before .before .room-read .kept .1 .1 .1 .1 .1 .1 .1 .1 .1 .1 .1 .1 .1 .1 .0)
+-- the call, from where its columns were handed back
+abbrev called : tie.After-told → tie.After-room-read
+called c = c .before .before .before .before .before .before .before .before .before .before .before .before .before .before .before .before .before .before .before .before .before .before .before .before .before .before .before .before .before
 
 pub with-rows-cut-spec : {M : Type 1} → statement M
 with-rows-cut-spec =
-    tie.close (tie.spec (λ c κs. tt) (λ c κs. tt) (λ c. c .before .before .before .before .before .before .before .before .before .before .before .before .before .part .ensures) slice-aggregate-room-read (λ c. c .before .before .before .before .before .before .before .before .before .before .before .before .before .part2 .ensures) slice-aggregate-room-read-2 (λ c κs. tt) (λ c κs. tt) same-length same-length-2 same-length-3 same-length-4 same-length-5 same-length-6 same-length-7 same-length-8 same-length-9 same-length-10 same-length-11 same-length-12 same-length-13 same-length-14 (λ c. tt))
+    tie.close (tie.spec (λ c κs. tt) (λ c κs. tt) (λ c. c .before .before .before .before .before .before .before .before .before .before .before .before .before .part .ensures) (λ c. sym (length-take-le _ _ (c .before .before .before .before .before .before .before .before .before .before .before .before .before .before .part .ensures))) (λ c. c .before .before .before .before .before .before .before .before .before .before .before .before .before .part2 .ensures) (λ c. sym (length-take-le _ _ (c .before .before .before .before .before .before .before .before .before .before .before .before .before .before .part2 .ensures))) (λ c κs. tt) (λ c κs. tt) (λ c. called c .room-read .kept .1 .0) (λ c. called c .room-read .kept .1 .1 .0) (λ c. called c .room-read .kept .1 .1 .1 .0) (λ c. called c .room-read .kept .1 .1 .1 .1 .0) (λ c. called c .room-read .kept .1 .1 .1 .1 .1 .0) (λ c. called c .room-read .kept .1 .1 .1 .1 .1 .1 .0) (λ c. called c .room-read .kept .1 .1 .1 .1 .1 .1 .1 .0) (λ c. called c .room-read .kept .1 .1 .1 .1 .1 .1 .1 .1 .0) (λ c. called c .room-read .kept .1 .1 .1 .1 .1 .1 .1 .1 .1 .0) (λ c. called c .room-read .kept .1 .1 .1 .1 .1 .1 .1 .1 .1 .1 .0) (λ c. called c .room-read .kept .1 .1 .1 .1 .1 .1 .1 .1 .1 .1 .1 .0) (λ c. called c .room-read .kept .1 .1 .1 .1 .1 .1 .1 .1 .1 .1 .1 .1 .0) (λ c. omega (arith, called c .room-read .kept .1 .1 .1 .1 .1 .1 .1 .1 .1 .1 .1 .1 .1 .0)) (λ c. omega (arith, called c .room-read .kept .1 .1 .1 .1 .1 .1 .1 .1 .1 .1 .1 .1 .1 .1 .0)) (λ c. tt))

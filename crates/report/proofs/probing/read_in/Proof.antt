@@ -4,26 +4,28 @@ use Rattle.report.proofs.Gathered.{gathered}
 use Rattle.report.proofs.probing.read_in.Statement.{statement}
 use Rattle.report.proofs.probing.read_in.Tie as tie
 
-same-length : tie.Need-same-length
-same-length c = c .before .before .before .before .before .before .before .before .before .before .before .before .before .before .before .before .before .before .before .before .before .before .before .before .before .before .before .before .before .before .before .before .before .read-points .kept .1 .1 .0
+-- the calls, from the last back to the first
+abbrev gathering : tie.After-slice-known16 → tie.After-gather-all
+gathering c = c .before .before .before .before
 
-same-length-2 : tie.Need-same-length-2
-same-length-2 c = c .before .before .before .before .before .before .before .before .before .before .before .before .before .before .before .before .before .before .before .before .before .before .before .before .before .before .before .before .before .before .before .before .before .read-points .kept .1 .1 .1 .0
+abbrev building : tie.After-slice-known16 → tie.After-grid-build
+building c = gathering c .before .before .before .before .before .before .before .before .before .before .before .before .before .before
+
+abbrev probes : tie.After-slice-known16 → tie.After-read-probes
+probes c = building c .before .before .before .before .before .before .before .before
+
+abbrev points : tie.After-slice-known16 → tie.After-read-points
+points c = probes c .before .before .before .before .before .before .before
 
 returns : tie.Need-returns
 returns c =
-    let ga = c .before .before .before .before in
-    let w2 = ga .before .before .before .before .before in
-    let gb = w2 .before .before .before .before .before .before .before .before .before in
-    let rp = gb .before .before .before .before .before .before .before .before in
-    let rs = rp .before .before .before .before .before .before .before in
-    let w = rs .before .before .before in
-    let s = w .before .before .before .before .before .before .before .before .before .before .before in
-    gathered _ (s .pre .0) (s .pre .1 .0) (s .pre .1 .1 .0) (s .pre .1 .1 .1 .0) (s .pre .1 .1 .1 .1 .0) (s .pre .1 .1 .1 .1 .1)
-    (w .wide .ensures) (w2 .wide2 .ensures)
-    (rs .read-points .ensures .0) (rs .read-points .ensures .1) (rp .read-probes .ensures .0) (rp .read-probes .ensures .1)
-    (gb .grid-build .ensures) (ga .gather-all .ensures)
+    let w = points c .before .before .before in
+    let p = w .before .before .before .before .before .before .before .before .before .before .before .pre in
+    gathered _ (p .0) (p .1 .0) (p .1 .1 .0) (p .1 .1 .1 .0) (p .1 .1 .1 .1 .0) (p .1 .1 .1 .1 .1)
+    (w .wide .ensures) (gathering c .before .before .before .before .before .wide2 .ensures)
+    (points c .read-points .ensures .0) (points c .read-points .ensures .1) (probes c .read-probes .ensures .0) (probes c .read-probes .ensures .1)
+    (building c .grid-build .ensures) (gathering c .gather-all .ensures)
 
 pub read-in-spec : {M : Type 1} → statement M
 read-in-spec =
-    tie.close (tie.spec (λ c κs. tt) (λ c κs. tt) (λ c κs. tt) (λ c κs. tt) (λ c κs. tt) (λ c κs. tt) same-length same-length-2 (λ c. search needs) (λ c. search needs) (λ c. search needs) (λ c. search needs) (λ c. search needs) (λ c. search needs) returns)
+    tie.close (tie.spec (λ c κs. tt) (λ c κs. tt) (λ c κs. tt) (λ c κs. tt) (λ c κs. tt) (λ c κs. tt) (λ c. points c .read-points .kept .1 .1 .0) (λ c. points c .read-points .kept .1 .1 .1 .0) (λ c. search needs) (λ c. search needs) (λ c. search needs) (λ c. search needs) (λ c. search needs) (λ c. search needs) returns)
