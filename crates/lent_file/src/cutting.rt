@@ -1,5 +1,4 @@
-// The reading of a room file into as much of each column as is lent: the columns of surfels are cut
-// first, then those of clusters, those of rows, and those of probes.
+// The reading of a room file into as much of each column as is lent.
 use crate::Lent;
 use crate::words::told;
 use replay::Words;
@@ -25,7 +24,7 @@ pub fn read(
     probe_p: &mut [f32; 64],
     probe_normals: &mut [f32; 64],
 ) -> Words {
-    with_none_cut(
+    read_cut(
         file,
         lent,
         p,
@@ -45,8 +44,8 @@ pub fn read(
     )
 }
 
-// The same, where nothing is cut yet.
-fn with_none_cut(
+// The same of columns of any length.
+fn read_cut(
     file: &[u8],
     lent: Lent,
     p: &mut [f32],
@@ -69,146 +68,29 @@ fn with_none_cut(
     let albedo_end = part(lent.albedo, albedo.len());
     let area_end = part(lent.area, area.len());
     let direct_end = part(lent.direct, direct.len());
-    with_surfels_cut(
+    let cluster_end = part(lent.cluster_area, cluster_area.len());
+    let first_end = part(lent.first, first.len());
+    let count_end = part(lent.count, count.len());
+    let member_end = part(lent.member, member.len());
+    let starts_end = part(lent.starts, starts.len());
+    let link_end = part(lent.link_cluster, link_cluster.len());
+    let weight_end = part(lent.link_weight, link_weight.len());
+    let probe_end = part(lent.probe_p, probe_p.len());
+    let facing_end = part(lent.probe_normals, probe_normals.len());
+    told(room::room_read(
         file,
-        lent,
         &mut p[..p_end],
         &mut normals[..normals_end],
         &mut albedo[..albedo_end],
         &mut area[..area_end],
         &mut direct[..direct_end],
-        cluster_area,
-        first,
-        count,
-        member,
-        starts,
-        link_cluster,
-        link_weight,
-        probe_p,
-        probe_normals,
-    )
-}
-
-// The same, where the columns of surfels are cut already.
-fn with_surfels_cut(
-    file: &[u8],
-    lent: Lent,
-    p: &mut [f32],
-    normals: &mut [f32],
-    albedo: &mut [f32],
-    area: &mut [f32],
-    direct: &mut [f32],
-    cluster_area: &mut [f32],
-    first: &mut [u32],
-    count: &mut [u32],
-    member: &mut [u32],
-    starts: &mut [u32],
-    link_cluster: &mut [u32],
-    link_weight: &mut [f32],
-    probe_p: &mut [f32],
-    probe_normals: &mut [f32],
-) -> Words {
-    let cluster_end = part(lent.cluster_area, cluster_area.len());
-    let first_end = part(lent.first, first.len());
-    let count_end = part(lent.count, count.len());
-    let member_end = part(lent.member, member.len());
-    with_clusters_cut(
-        file,
-        lent,
-        p,
-        normals,
-        albedo,
-        area,
-        direct,
         &mut cluster_area[..cluster_end],
         &mut first[..first_end],
         &mut count[..count_end],
         &mut member[..member_end],
-        starts,
-        link_cluster,
-        link_weight,
-        probe_p,
-        probe_normals,
-    )
-}
-
-// The same, where those of clusters are cut too.
-fn with_clusters_cut(
-    file: &[u8],
-    lent: Lent,
-    p: &mut [f32],
-    normals: &mut [f32],
-    albedo: &mut [f32],
-    area: &mut [f32],
-    direct: &mut [f32],
-    cluster_area: &mut [f32],
-    first: &mut [u32],
-    count: &mut [u32],
-    member: &mut [u32],
-    starts: &mut [u32],
-    link_cluster: &mut [u32],
-    link_weight: &mut [f32],
-    probe_p: &mut [f32],
-    probe_normals: &mut [f32],
-) -> Words {
-    let starts_end = part(lent.starts, starts.len());
-    let link_end = part(lent.link_cluster, link_cluster.len());
-    let weight_end = part(lent.link_weight, link_weight.len());
-    with_rows_cut(
-        file,
-        lent,
-        p,
-        normals,
-        albedo,
-        area,
-        direct,
-        cluster_area,
-        first,
-        count,
-        member,
         &mut starts[..starts_end],
         &mut link_cluster[..link_end],
         &mut link_weight[..weight_end],
-        probe_p,
-        probe_normals,
-    )
-}
-
-// The same, where only those of probes are not cut yet.
-fn with_rows_cut(
-    file: &[u8],
-    lent: Lent,
-    p: &mut [f32],
-    normals: &mut [f32],
-    albedo: &mut [f32],
-    area: &mut [f32],
-    direct: &mut [f32],
-    cluster_area: &mut [f32],
-    first: &mut [u32],
-    count: &mut [u32],
-    member: &mut [u32],
-    starts: &mut [u32],
-    link_cluster: &mut [u32],
-    link_weight: &mut [f32],
-    probe_p: &mut [f32],
-    probe_normals: &mut [f32],
-) -> Words {
-    let probe_end = part(lent.probe_p, probe_p.len());
-    let facing_end = part(lent.probe_normals, probe_normals.len());
-    told(room::room_read(
-        file,
-        p,
-        normals,
-        albedo,
-        area,
-        direct,
-        cluster_area,
-        first,
-        count,
-        member,
-        starts,
-        link_cluster,
-        link_weight,
         &mut probe_p[..probe_end],
         &mut probe_normals[..facing_end],
     ))
