@@ -50,7 +50,7 @@ pub run-ended : (r : Room) (m : ℕ) (l : Light) → (r .clusters .nc ≡ 0 → 
 unfolding run
 run-ended r m l h = rw (ne-eqb (r .clusters .nc) 0 h) (rw zero-add at (more-ended r m (noBounce l)))
 
--- with clusters or without
+-- with clusters or without, a run makes at most its limit of bounces
 pub run-most : (r : Room) (m : ℕ) (l : Light) → run r m l .bounces ≤ m
 run-most r m l = most-by (r .clusters .nc) refl
   where
