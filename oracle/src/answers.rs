@@ -22,6 +22,8 @@ pub fn answer(name: &str, operands: &[u32]) -> Vec<u32> {
         "max" => float(x(0).max(x(1))),
         "min" => float(x(0).min(x(1))),
         "clamp" => float(x(0).clamp(x(1), x(2))),
+        "product" => float(x(0) * x(1)),
+        "quotient" => float(x(0) / x(1)),
         "signum" => float(x(0).signum()),
         "finite" => vec![x(0).is_finite().into()],
         "cell" => vec![cell(x(0), operands[1])],

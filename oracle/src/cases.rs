@@ -59,6 +59,8 @@ pub fn floats() -> Vec<Case> {
     roots(&mut cases);
     single_floats(&mut cases);
     max_and_min(&mut cases);
+    products(&mut cases);
+    quotients(&mut cases);
     clamps(&mut cases);
     cells(&mut cases);
     counts(&mut cases);
@@ -217,6 +219,86 @@ fn max_and_min(cases: &mut Cases) {
         cases.fill(name, 20, || Some([any(random), any(random)]));
         cases.fill(name, 20, || Some([moderate(random), moderate(random)]));
     }
+}
+
+/// Floats about the ends of the subnormal ones, and about 2^-63 and 1.
+fn border() -> Vec<f32> {
+    let bits = [
+        1,
+        2,
+        3,
+        5,
+        0x40_0000,
+        0x7F_FFFF,
+        0x80_0000,
+        0x100_0000,
+        0x2000_0000,
+        0x3F80_0000,
+    ];
+    let mut list: Vec<f32> = bits
+        .into_iter()
+        .map(f32::from_bits)
+        .flat_map(around)
+        .collect();
+    list.extend(SPECIAL);
+    list
+}
+
+/// A subnormal number of any size, or a normal one that is as small.
+fn faint(random: &mut Random) -> f32 {
+    let fraction = random.word() >> 9;
+    match random.below(3) {
+        0 => f32::from_bits(fraction),
+        1 => f32::from_bits(fraction >> random.below(23)),
+        _ => f32::from_bits((1 + random.below(60)) << 23 | fraction),
+    }
+}
+
+/// A positive float from 2^least up to 2^most, any fraction or none.
+fn sized(random: &mut Random, least: i32, most: i32) -> f32 {
+    let exponent = (127 + least) as u32 + random.below((most - least) as u32);
+    let fraction = match random.below(4) {
+        0 => 0,
+        1 => 0x40_0000,
+        _ => random.word() >> 9,
+    };
+    f32::from_bits(exponent << 23 | fraction)
+}
+
+fn products(cases: &mut Cases) {
+    for x in border() {
+        for y in border() {
+            cases.add("product", &[x, y]);
+        }
+    }
+    let mut random = random_of("product");
+    cases.fill("product", 600, || {
+        Some([faint(&mut random), sized(&mut random, -40, 26)])
+    });
+    cases.fill("product", 400, || {
+        Some([sized(&mut random, -126, 2), sized(&mut random, -126, 2)])
+    });
+    cases.fill("product", 200, || {
+        Some([any(&mut random), any(&mut random)])
+    });
+}
+
+fn quotients(cases: &mut Cases) {
+    for x in border() {
+        for y in border() {
+            cases.add("quotient", &[x, y]);
+        }
+    }
+    let mut random = random_of("quotient");
+    cases.fill("quotient", 600, || {
+        Some([faint(&mut random), sized(&mut random, -72, 41)])
+    });
+    cases.fill("quotient", 400, || {
+        Some([sized(&mut random, -126, 0), sized(&mut random, 0, 127)])
+    });
+    cases.fill("quotient", 200, || {
+        Some([any(&mut random), any(&mut random)])
+    });
 }
 
 /// The ends are in order and no NaN: Rust's clamp panics otherwise. An end of zero is +0, as in the

@@ -51,6 +51,12 @@ fn of_two(line: &[u8], a: f32, b: u32) -> Words {
     if named(line, b"min") {
         return float_word(float::min(a, of_bits(b)));
     }
+    if named(line, b"product") {
+        return float_word(subnormal::product(a, of_bits(b)));
+    }
+    if named(line, b"quotient") {
+        return float_word(subnormal::quotient(a, of_bits(b)));
+    }
     if named(line, b"cell") {
         return whole(float::cell(a, b as usize));
     }

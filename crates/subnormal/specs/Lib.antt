@@ -1,0 +1,3 @@
+-- The definitions that the contracts of `subnormal` cite.
+pub mod Parts
+pub mod Packing
