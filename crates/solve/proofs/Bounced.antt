@@ -1,6 +1,6 @@
 -- A bounce of the code is the bounce of the definition: rows that read the stored light of the clusters read the clusters' light. Assumes nothing.
 use mathlib.Core.List.{List}
-use mathlib.Core.Path.{_≡_, ap, _∙_}
+use mathlib.Core.Path.{_≡_, refl, ap, _∙_}
 use Prim.Native.Nat.{ℕ, _+_, _*_, _<_, _≤_}
 use native.Mathlib.Omega.{arith}
 use lib.Ieee.{Float}
@@ -9,19 +9,36 @@ use Rattle.float.specs.Arithmetic.{0f}
 use Rattle.float.specs.Column.{floatAt}
 use Rattle.float.specs.Order.{greater}
 use Rattle.vector.specs.declared.Vec3.{Vec3}
-use Rattle.vector.specs.Flat.{vecAt, written}
+use Rattle.vector.specs.Flat.{vecAt, components, written}
 use Rattle.vector.specs.Vector.{plus, zeroVec, scaled}
-use Rattle.vector.proofs.Replaced.{length-written, at-written, written-same}
+use Rattle.vector.proofs.Replaced.{replaced-again, length-written, at-written, written-same}
 use Rattle.vector.proofs.Sums.{fold-same}
 use Rattle.accept.specs.Tables.{numberAt}
 use Rattle.transfer.specs.Room.{Room, Light, lightOf}
-use Rattle.solve.specs.Bounce.{clusterLight, linkLight, rowLight, radOf, newIrr, newRad, bounce, step, greatestStep, change}
+use Rattle.solve.specs.Bounce.{memberLight, clusterLight, linkLight, rowLight, radOf, newIrr, newRad, bounce, step, greatestStep, change}
 use Rattle.transfer.specs.Needs.{RowsHeld, Accepted}
 use Rattle.transfer.proofs.Acceptance.{rows-held-also}
 
 -- the clusters' light that a bounce from the light l starts with
 abbrev pub clustersLight : Room → Light → ℕ → Vec3
 clustersLight r l = clusterLight (r .clusters) (r .area) (l .rad)
+
+-- vectors written once more, as many, are those that were written last
+pub written-again : (f g : ℕ → Vec3) (n : ℕ) (l : List Float) → written f n (written g n l) ≡ written f n l
+written-again f g = replaced-again 3 (λ i. components (f i)) (λ i. components (g i)) (λ i. refl)
+
+-- a room that is accepted, and `power`, its irr with the surfels' power stored
+module _ {r : Room} {l : Light} {s power : List Float} (ok : Accepted r l s) (stored : power ≡ written (memberLight (r .area) (l .rad)) (r .n) (l .irr)) where
+  -- it has each surfel's
+  pub power-held : 3 * r .n ≤ length power
+  power-held = let e = ap length stored ∙ length-written (memberLight (r .area) (l .rad)) (r .n) (l .irr) (ok .irrs) in omega (arith, e, ok .irrs)
+
+  pub power-at : (i : ℕ) → i < r .n → vecAt power i ≡ memberLight (r .area) (l .rad) i
+  power-at i h = ap (λ (d : List Float). vecAt d i) stored ∙ at-written (memberLight (r .area) (l .rad)) (r .n) i (l .irr) h
+
+  -- and nothing of it is left once as many vectors are written over it
+  pub over-power : (f : ℕ → Vec3) {irr : List Float} → irr ≡ written f (r .n) power → irr ≡ written f (r .n) (l .irr)
+  over-power f e = rw (e, stored) (written-again f (memberLight (r .area) (l .rad)) (r .n) (l .irr))
 
 -- a room that is accepted, and `light`, the list s with its clusters' light stored
 module _ {r : Room} {l : Light} {s light : List Float} (ok : Accepted r l s) (stored : light ≡ written (clustersLight r l) (r .clusters .nc) s) where

@@ -9,14 +9,14 @@ use lib.Ieee.{Float}
 use lib.ListN.{length}
 use borrow.Author.Tests.{ne-eqb}
 use Rattle.float.specs.Arithmetic.{0f}
-use Rattle.vector.specs.Flat.{components, written}
-use Rattle.vector.proofs.Replaced.{replaced-again, length-written}
+use Rattle.vector.specs.Flat.{written}
+use Rattle.vector.proofs.Replaced.{length-written}
 use Rattle.transfer.specs.Room.{Room, Light}
 use Rattle.solve.specs.Bounce.{newIrr, newRad, bounce, change}
 use Rattle.solve.specs.Runs.{Run, noBounce, next, stopped, more, run, bounced, clustersAfter}
 use Rattle.transfer.specs.Needs.{Accepted}
 use Rattle.transfer.proofs.Acceptance.{accepted-also}
-use Rattle.solve.proofs.Bounced.{clustersLight}
+use Rattle.solve.proofs.Bounced.{clustersLight, written-again}
 
 -- the clusters' light of one bounce more, stored over that of the bounce before
 after-more : (r : Room) (k : ℕ) (l : Light) (s : List Float) {d e : List Float}
@@ -24,7 +24,7 @@ after-more : (r : Room) (k : ℕ) (l : Light) (s : List Float) {d e : List Float
 unfolding clustersAfter
 after-more r zero l s p q = rw (q, p)
 after-more r (suc k) l s p q =
-    rw (q, p) (replaced-again 3 (λ c. components (clustersLight r (bounced r (suc k) l) c)) (λ c. components (clustersLight r (bounced r k l) c)) (λ c. refl) (r .clusters .nc) s)
+    rw (q, p) (written-again (clustersLight r (bounced r (suc k) l)) (clustersLight r (bounced r k l)) (r .clusters .nc) s)
 
 -- the run of so many bounces, with this last change and this light
 abbrev pub made : ℕ → Float → Light → Run

@@ -1,6 +1,6 @@
 -- The light of one cluster and of one row, and the greatest step with one vector more: what the loops over clusters and surfels cite. Assumes nothing.
 use mathlib.Core.List.{List}
-use mathlib.Core.Path.{_≡_}
+use mathlib.Core.Path.{_≡_, _∙_}
 use Prim.Native.Nat.{ℕ, _+_, _*_, _-_, _<_, _≤_}
 use native.Mathlib.Omega.{arith}
 use lib.Ieee.{Float}
@@ -9,12 +9,13 @@ use Rattle.float.specs.Arithmetic.{0f}
 use Rattle.float.specs.Column.{floatAt}
 use Rattle.float.specs.Order.{greater}
 use Rattle.vector.specs.declared.Vec3.{Vec3}
+use Rattle.vector.specs.Flat.{vecAt}
 use Rattle.vector.specs.Fold.{total}
-use Rattle.vector.specs.Vector.{over}
-use Rattle.vector.proofs.Sums.{fold-none, fold-more}
+use Rattle.vector.specs.Vector.{plus, zeroVec, over}
+use Rattle.vector.proofs.Sums.{fold-none, fold-more, fold-same}
 use Rattle.accept.specs.Tables.{numberAt}
 use Rattle.transfer.specs.Room.{Clusters, Rows}
-use Rattle.transfer.specs.Needs.{LinksHeld, RowsHeld}
+use Rattle.transfer.specs.Needs.{ClustersHeld, LinksHeld, RowsHeld}
 use Rattle.solve.specs.Bounce.{leastArea, memberLight, clusterLight, linkLight, rowLight, step, greatestStep}
 
 -- the sum s over the members from `from` on, divided by the larger of the area and 1e-12, is the cluster's light
@@ -27,6 +28,18 @@ pub cluster-light-by : (cs : Clusters) (area rad : List Float) (c : ℕ) {from c
     → v ≡ clusterLight cs area rad c
 unfolding clusterLight
 cluster-light-by cs area rad c p q r e f = rw (f, e, r, p, q)
+
+-- the sum of the power of a cluster's members is that of their light, where each surfel's power is its light
+pub power-summed : {n : ℕ} (cs : Clusters) (area rad power : List Float) → ClustersHeld n cs area rad
+    → ((i : ℕ) → i < n → vecAt power i ≡ memberLight area rad i)
+    → (c : ℕ) → c < cs .nc → {from count : ℕ} {s : Vec3}
+    → from ≡ numberAt (cs .first) c
+    → count ≡ numberAt (cs .count) c
+    → s ≡ total (λ j. vecAt power (numberAt (cs .member) (from + j))) count
+    → s ≡ total (λ j. memberLight area rad (numberAt (cs .member) (from + j))) count
+power-summed cs area rad power held each c h {from} p q r =
+    let end = held .inside c h in
+    r ∙ fold-same plus zeroVec _ _ _ (λ j k. each (numberAt (cs .member) (from + j)) (held .each .below (from + j) (omega (arith, end, p, q, k))))
 
 -- a link has its number, its weight and its cluster's light
 pub link-held : {nc links : ℕ} {cluster : List ℕ} {weight light : List Float} → LinksHeld nc links cluster weight light

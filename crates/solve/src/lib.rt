@@ -3,6 +3,9 @@
 // The entry refuses by document 01's numbers. No public function has a `requires`.
 mod clusters;
 mod entries;
+mod faint;
+mod faint_rows;
+mod power;
 mod rows;
 mod running;
 mod surfels;

@@ -1,4 +1,5 @@
 // The surfels' irr, from the light of the clusters that their rows link to.
+use crate::faint_rows::faint_irr;
 use accept::wide;
 use vector::Vec3;
 ghost use mathlib.Core.Path.{_≡_};
@@ -17,9 +18,34 @@ pub struct TwoRows {
     pub second: Vec3,
 }
 
-// Every surfel's irr: what its row brings of the clusters' light. Two rows are summed in a turn, one
-// from the front and one from the middle on; the middle one of an odd number is stored twice.
+// Every surfel's irr: what its row brings of the clusters' light. `faint` tells whether a weight or a
+// channel of that light may be faint: the time depends on it, and nothing else.
 pub fn update_irr(
+    n: usize,
+    nc: usize,
+    links: usize,
+    faint: bool,
+    starts: &[u32],
+    link_cluster: &[u32],
+    link_weight: &[f32],
+    light: &[f32],
+    irr: &mut [f32],
+)
+    requires { ⌜ RowsHeld n nc (rowsOf links (now starts) (now «link_cluster») (now «link_weight»)) (now light) ⌝ }
+    requires { ⌜ 3 * n ≤ length (now irr) ⌝ }
+    ensures { λ r. ⌜ now (irr .exit)
+        ≡ written (rowLight (rowsIn links starts «link_cluster» «link_weight») (vecAt (now (light .entry)))) n (now (irr .entry)) ⌝ }
+{
+    if faint {
+        faint_irr(n, nc, links, starts, link_cluster, link_weight, light, irr);
+    } else {
+        ample_irr(n, nc, links, starts, link_cluster, link_weight, light, irr);
+    }
+}
+
+// Every surfel's irr, in the least time where nothing is faint. Two rows are summed in a turn, one
+// from the front and one from the middle on; the middle one of an odd number is stored twice.
+fn ample_irr(
     n: usize,
     nc: usize,
     links: usize,

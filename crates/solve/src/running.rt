@@ -1,6 +1,9 @@
 // One bounce, and bounces until the last change is under 0.0001 or their limit is made.
 use crate::SolveStats;
 use crate::clusters::update_clusters;
+use crate::faint::any_faint;
+use crate::faint::faint_room;
+use crate::power::update_power;
 use crate::rows::update_irr;
 use crate::surfels::update_rad;
 ghost use mathlib.Core.Path.{_≡_};
@@ -41,6 +44,7 @@ pub fn run(
         (lightIn irr rad) (now (light .entry)) ⌝ }
 {
     let most = if nc == 0 { 0 } else { limit };
+    let faint = faint_room(n, links, albedo, area, link_weight);
     let mut bounces = 0;
     let mut change = 0.0;
     while bounces < most {
@@ -52,6 +56,7 @@ pub fn run(
             nc,
             members,
             links,
+            faint,
             albedo,
             area,
             direct,
@@ -72,12 +77,15 @@ pub fn run(
 }
 
 // One bounce: the clusters' light goes into `light`, irr and rad become new. The greatest absolute
-// step of any channel of rad.
+// step of any channel of rad. Until the rows are summed, irr holds the surfels' power. `faint`
+// tells whether a weight, an area or a channel of albedo is faint: the time depends on it, and nothing
+// else.
 fn bounce(
     n: usize,
     nc: usize,
     members: usize,
     links: usize,
+    faint: bool,
     albedo: &[f32],
     area: &[f32],
     direct: &[f32],
@@ -101,6 +109,7 @@ fn bounce(
     ensures { λ r. ⌜ now (light .exit)
         ≡ written (clusterLight (clustersIn nc members «cluster_area» first count member) (now (area .entry)) (now (rad .entry))) nc (now (light .entry)) ⌝ }
 {
+    update_power(n, faint | any_faint(rad, 3 * n), area, rad, irr);
     update_clusters(
         n,
         nc,
@@ -111,10 +120,21 @@ fn bounce(
         count,
         member,
         rad,
+        irr,
         light,
     );
-    update_irr(n, nc, links, starts, link_cluster, link_weight, light, irr);
-    update_rad(n, albedo, direct, irr, rad)
+    update_irr(
+        n,
+        nc,
+        links,
+        faint | any_faint(light, 3 * nc),
+        starts,
+        link_cluster,
+        link_weight,
+        light,
+        irr,
+    );
+    update_rad(n, faint | any_faint(irr, 3 * n), albedo, direct, irr, rad)
 }
 
 // Whether a run that made so many bounces stops early: it made one, and its last change is under

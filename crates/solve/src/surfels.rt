@@ -1,4 +1,5 @@
 // The surfels' rad, from their irr.
+use crate::faint::times;
 use crate::rows::vec_at;
 use vector::Vec3;
 ghost use mathlib.Core.Path.{_≡_};
@@ -7,8 +8,16 @@ ghost use lib.ListN.{length};
 ghost use Rattle.vector.specs.Flat.{vecAt, written};
 ghost use Rattle.solve.specs.Bounce.{radOf, step, greatestStep};
 
-// Every surfel's rad, and the greatest absolute step of any channel of it.
-pub fn update_rad(n: usize, albedo: &[f32], direct: &[f32], irr: &[f32], rad: &mut [f32]) -> f32
+// Every surfel's rad, and the greatest absolute step of any channel of it. `faint` tells whether a
+// channel of albedo or irr may be faint.
+pub fn update_rad(
+    n: usize,
+    faint: bool,
+    albedo: &[f32],
+    direct: &[f32],
+    irr: &[f32],
+    rad: &mut [f32],
+) -> f32
     requires { ⌜ 3 * n ≤ length (now albedo) ⌝ }
     requires { ⌜ 3 * n ≤ length (now direct) ⌝ }
     requires { ⌜ 3 * n ≤ length (now irr) ⌝ }
@@ -22,7 +31,7 @@ pub fn update_rad(n: usize, albedo: &[f32], direct: &[f32], irr: &[f32], rad: &m
     let mut i = 0;
     while i < n {
         let arriving = vec_at(irr, i);
-        let new = rad_of(direct, albedo, i, arriving);
+        let new = rad_of(faint, direct, albedo, i, arriving);
         change = float::max(change, step(vec_at(rad, i), new));
         vector::put(rad, i, new);
         i += 1;
@@ -31,12 +40,12 @@ pub fn update_rad(n: usize, albedo: &[f32], direct: &[f32], irr: &[f32], rad: &m
 }
 
 // The rad of surfel i that this irr gives.
-fn rad_of(direct: &[f32], albedo: &[f32], i: usize, irr: Vec3) -> Vec3
+fn rad_of(faint: bool, direct: &[f32], albedo: &[f32], i: usize, irr: Vec3) -> Vec3
     requires { ⌜ 3 * i + 2 < length (now direct) ⌝ }
     requires { ⌜ 3 * i + 2 < length (now albedo) ⌝ }
     ensures { λ r. ⌜ r ≡ radOf (now (direct .entry)) (now (albedo .entry)) i irr ⌝ }
 {
-    vec_at(direct, i).plus(vec_at(albedo, i).times(irr))
+    vec_at(direct, i).plus(times(faint, vec_at(albedo, i), irr))
 }
 
 // The greatest absolute step of a channel.

@@ -8,18 +8,18 @@ use Rattle.vector.specs.Flat.{written}
 use Rattle.vector.proofs.Replaced.{written-none, written-put}
 use Rattle.transfer.specs.Room.{clustersOf}
 use Rattle.solve.specs.Bounce.{clusterLight}
-use Rattle.solve.proofs.Lighted.{cluster-light-by}
+use Rattle.solve.proofs.Lighted.{power-summed, cluster-light-by}
 use Rattle.solve.proofs.clusters.update_clusters.Statement.{statement}
 use Rattle.solve.proofs.clusters.update_clusters.Tie as tie
 
 abbrev Inv-loop : tie.InvT-loop
-Inv-loop n nc members area cluster-area first count member rad light₀ c₀ light c =
+Inv-loop n nc members area cluster-area first count member rad power light₀ c₀ light c =
     (c ≤ nc)
     × (light ≡ written (clusterLight (clustersOf nc members cluster-area first count member) area rad) c light₀)
     × (length light ≡ length light₀)
 
 abbrev μ-loop : tie.MeasureT-loop
-μ-loop n nc members area cluster-area first count member rad light₀ c₀ light c = nc - c
+μ-loop n nc members area cluster-area first count member rad power light₀ c₀ light c = nc - c
 
 loop-holds : tie.Need-loop-holds Inv-loop μ-loop
 loop-holds c = (omega arith, written-none _ _, refl)
@@ -27,8 +27,10 @@ loop-holds c = (omega arith, written-none _ _, refl)
 members-light-requires : tie.Need-members-light-requires Inv-loop μ-loop
 members-light-requires c κs =
     let t = c .before .before .before .before in
-    let s = t .before .before .before .before .before .before .before .before .before in
-    (omega (arith, s .pre .0 .inside (t .before .loop .c) (t .loop-test .taken), c .wide2 .ensures, c .before .before .wide .ensures), s .pre .0 .each)
+    let s = t .before .before .before .before .before .before .before .before .before .before in
+    let held = s .pre .0 in
+    let end = held .inside (t .before .loop .c) (t .loop-test .taken) in
+    (omega (arith, end, c .wide2 .ensures, c .before .before .wide .ensures), (held .each .held, (held .each .below, s .pre .1 .0)))
 
 loop-again : tie.Need-loop-again Inv-loop μ-loop
 loop-again c =
@@ -36,19 +38,23 @@ loop-again c =
     let m = o .before .before .before .before in
     let t = m .before .before .before .before .before in
     let lp = t .before in
-    let s = lp .before .before .before .before .before .before .before .before .args in
+    let st = lp .before .before .before .before .before .before .before .before .before in
+    let s = st .args in
     let cs = clustersOf (s .nc) (s .members) (s .cluster-area .now) (s .first .now) (s .count .now) (s .member .now) in
     let k = lp .loop .c in
-    let v = cluster-light-by cs (s .area .now) (s .rad .now) k (m .before .before .before .wide .ensures) (m .before .wide2 .ensures) (m .members-light .ensures) (o .before .max .ensures) (o .over .ensures) in (
+    let from = m .before .before .before .wide .ensures in
+    let count = m .before .wide2 .ensures in
+    let sum = power-summed cs (s .area .now) (s .rad .now) (s .power .now) (st .pre .0) (st .pre .1 .1 .0) k (t .loop-test .taken) from count (m .members-light .ensures) in
+    let v = cluster-light-by cs (s .area .now) (s .rad .now) k from count sum (o .before .max .ensures) (o .over .ensures) in (
       omega (arith, t .loop-test .taken),
-      written-put _ k _ (lp .loop .inv .1) (omega (arith, t .loop-test .taken, lp .before .before .before .before .before .before .before .before .pre .1)) v (c .before .before .put .ensures),
+      written-put _ k _ (lp .loop .inv .1) (omega (arith, t .loop-test .taken, st .pre .1 .1 .1)) v (c .before .before .put .ensures),
       c .before .before .put .kept .0 ∙ lp .loop .inv .2,
     )
 
 returns : tie.Need-returns Inv-loop μ-loop
 returns c =
     let lp = c .before in
-    let e : lp .loop .c ≡ lp .before .before .before .before .before .before .before .before .args .nc = omega (arith, c .loop-test .left, lp .loop .inv .0) in
+    let e : lp .loop .c ≡ lp .before .before .before .before .before .before .before .before .before .args .nc = omega (arith, c .loop-test .left, lp .loop .inv .0) in
     rw e at (lp .loop .inv .1)
 
 pub update-clusters-spec : {M : Type 1} → statement M

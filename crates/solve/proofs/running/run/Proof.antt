@@ -10,18 +10,24 @@ use Rattle.solve.proofs.running.run.Statement.{statement}
 use Rattle.solve.proofs.running.run.Tie as tie
 
 abbrev Inv-loop : tie.InvT-loop
-Inv-loop n nc members links limit albedo area direct cluster-area first count member starts link-cluster link-weight irr₀ rad₀ light₀ most bounces₀ change₀ irr rad light bounces change =
+Inv-loop n nc members links limit albedo area direct cluster-area first count member starts link-cluster link-weight irr₀ rad₀ light₀ most faint bounces₀ change₀ irr rad light bounces change =
     Going (roomOf n albedo area direct (clustersOf nc members cluster-area first count member) (rowsOf links starts link-cluster link-weight)) limit most
     (lightOf irr₀ rad₀) light₀ bounces change (lightOf irr rad) light
 
 abbrev μ-loop : tie.MeasureT-loop
-μ-loop n nc members links limit albedo area direct cluster-area first count member starts link-cluster link-weight irr₀ rad₀ light₀ most bounces₀ change₀ irr rad light bounces change =
+μ-loop n nc members links limit albedo area direct cluster-area first count member starts link-cluster link-weight irr₀ rad₀ light₀ most faint bounces₀ change₀ irr rad light bounces change =
     most - bounces
+
+faint-room-requires : tie.Need-faint-room-requires Inv-loop μ-loop
+faint-room-requires c κs =
+    let ok = c .before .before .before .before .before .before .before .before .before .before .before .before .before .before .pre in
+    (ok .rows-held .each .weights, (ok .clusters-held .each .areas, ok .albedos))
 
 loop-holds : tie.Need-loop-holds Inv-loop μ-loop
 loop-holds c =
-    let ok = c .before .before .before .before .before .before .before .before .before .before .before .before .before .before .pre in
-    ⊎-elim (λ w. going-without ok (w .0 .taken) (w .1)) (λ w. going-with ok (w .0 .left) (w .1)) (c .if1 .came)
+    let j = c .before in
+    let ok = j .before .before .before .before .before .before .before .before .before .before .before .before .before .before .pre in
+    ⊎-elim (λ w. going-without ok (w .0 .taken) (w .1)) (λ w. going-with ok (w .0 .left) (w .1)) (j .if1 .came)
 
 returns : tie.Need-returns Inv-loop μ-loop
 returns c =
@@ -35,7 +41,7 @@ bounce-requires c κs = c .before .before .before .before .before .before .loop 
 add-bounces : tie.Need-add-bounces Inv-loop μ-loop
 add-bounces c =
     let t = c .before .before .before .before .before .before .before .before .before .before .before .before in
-    let j = t .before .before in
+    let j = t .before .before .before in
     let fits = j .before .before .before .before .before .before .before .before .before .before .before .before .before .before .fits in
     ⊎-elim (λ w. omega (arith, t .loop-test .taken, w .1, fits)) (λ w. omega (arith, t .loop-test .taken, w .1, fits)) (j .if1 .came)
 
@@ -53,4 +59,4 @@ returns-2 c =
     (going-ended g (c .loop-test .left), g .scratch)
 
 pub run-spec : {M : Type 1} → statement M
-run-spec = tie.close (tie.spec Inv-loop μ-loop loop-holds (λ c κs. search needs) (λ c. search needs) (λ c. search needs) (λ c. search needs) returns bounce-requires add-bounces (λ c. search needs) loop-again (λ c. search needs) (λ c. search needs) (λ c. search needs) returns-2)
+run-spec = tie.close (tie.spec Inv-loop μ-loop faint-room-requires loop-holds (λ c κs. search needs) (λ c. search needs) (λ c. search needs) (λ c. search needs) returns bounce-requires add-bounces (λ c. search needs) loop-again (λ c. search needs) (λ c. search needs) (λ c. search needs) returns-2)

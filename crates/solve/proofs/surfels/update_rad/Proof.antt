@@ -12,14 +12,14 @@ use Rattle.solve.proofs.surfels.update_rad.Statement.{statement}
 use Rattle.solve.proofs.surfels.update_rad.Tie as tie
 
 abbrev Inv-loop : tie.InvT-loop
-Inv-loop n albedo direct irr rad₀ change₀ i₀ rad change i =
+Inv-loop n faint albedo direct irr rad₀ change₀ i₀ rad change i =
     (i ≤ n)
     × (rad ≡ written (λ k. radOf direct albedo k (vecAt irr k)) i rad₀)
     × (change ≡ greatestStep (vecAt rad₀) (λ k. radOf direct albedo k (vecAt irr k)) i)
     × (length rad ≡ length rad₀)
 
 abbrev μ-loop : tie.MeasureT-loop
-μ-loop n albedo direct irr rad₀ change₀ i₀ rad change i = n - i
+μ-loop n faint albedo direct irr rad₀ change₀ i₀ rad change i = n - i
 
 loop-holds : tie.Need-loop-holds Inv-loop μ-loop
 loop-holds c = (omega arith, written-none _ _, steps-none _ _ refl, refl)

@@ -1,4 +1,4 @@
--- `solve::rows::update_irr` meets its contract. The loop has stored the irr of i surfels from the front on and of i from the middle on. Assumes nothing.
+-- `solve::rows::ample_irr` meets its contract. The loop has stored the irr of i surfels from the front on and of i from the middle on. Assumes nothing.
 use mathlib.Core.Path.{_≡_}
 use Prim.Native.Nat.{_+_, _-_, _≤_}
 use native.Mathlib.Omega.{arith}
@@ -7,8 +7,8 @@ use Rattle.vector.specs.Flat.{vecAt}
 use Rattle.transfer.specs.Room.{rowsOf}
 use Rattle.solve.specs.Bounce.{rowLight}
 use Rattle.solve.proofs.Fronts.{Fronts, fronts-none, fronts-more, fronts-end}
-use Rattle.solve.proofs.rows.update_irr.Statement.{statement}
-use Rattle.solve.proofs.rows.update_irr.Tie as tie
+use Rattle.solve.proofs.rows.ample_irr.Statement.{statement}
+use Rattle.solve.proofs.rows.ample_irr.Tie as tie
 
 abbrev Inv-loop : tie.InvT-loop
 Inv-loop n nc links starts link-cluster link-weight light irr₀ middle turns i₀ irr i =
@@ -42,7 +42,7 @@ returns c =
     let inv = lp .loop .inv in
     fronts-end _ _ _ _ (lp .loop .i) (inv .3) (omega (arith, c .loop-test .left, inv)) (omega (arith, c .loop-test .left, inv)) (c .before .before .before .before .before .before .before .pre .1)
 
-pub update-irr-spec : {M : Type 1} → statement M
-update-irr-spec =
+pub ample-irr-spec : {M : Type 1} → statement M
+ample-irr-spec =
     tie.close
     (tie.spec Inv-loop μ-loop (λ c. search needs) loop-holds (λ c. search needs) (λ c κs. search needs) (λ c κs. search needs) (λ c κs. search needs) (λ c. search needs) (λ c. search needs) loop-again (λ c. search needs) returns)
