@@ -13,7 +13,8 @@ ghost use Rattle.transfer.specs.Room.{clustersOf, clustersIn};
 ghost use Rattle.solve.specs.Bounce.{memberLight, clusterLight};
 ghost use Rattle.transfer.specs.Needs.{ClustersHeld};
 
-// Every cluster's light, into `light`. `power` holds each surfel's rad times its area.
+// Every cluster's light, into `light`. `power` holds each surfel's rad times its area, so that
+// neither is read again.
 pub fn update_clusters(
     n: usize,
     nc: usize,

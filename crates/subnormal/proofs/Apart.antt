@@ -3,7 +3,7 @@ use mathlib.Core.Path.{_≡_, refl, sym, ap, _∙_, subst}
 use mathlib.Core.Logic.{inl, inr}
 use mathlib.Core.Bool.{Bool, true, false, not, _&&_, cond, true≢false}
 use Prim.Native.Nat.{ℕ, suc, _+_, _-_, _*_, _/_, _%_, _^_, _≤_, _<_}
-use native.Mathlib.Nat.{le-trans, le-of-eq, lt-of-lt-of-le, lt-of-le-of-lt, lt-of-not-le, not-le-of-lt, mul-pos, two-pow-succ}
+use native.Mathlib.Nat.{le-trans, le-of-eq, lt-of-lt-of-le, lt-of-not-le, not-le-of-lt, mul-pos, two-pow-succ}
 use native.Mathlib.Omega.{arith}
 use lib.Dec.{T}
 use borrow.Author.Tests.{lt-ltb, le-ltb}
@@ -15,7 +15,7 @@ use lib.Ieee.Digits.{size-lt, size-le}
 use lib.Ieee.Exact.{HasValue, odd-sign}
 use lib.Ieee.Positive.{positive, positive-of-value}
 use Rattle.float.specs.Arithmetic.{0f}
-use Rattle.float.proofs.Numbers.{here-or-on, pow-lt-cancel}
+use Rattle.float.proofs.Numbers.{here-or-on}
 use Rattle.float.proofs.Patterns.{small, normal}
 use Rattle.subnormal.specs.Parts.{significandOf, exponentOf}
 
@@ -36,8 +36,9 @@ digits-of p l =
     fewer : {u v : ℕ} → p < u → u + u ≤ v → 2 * p + 1 < v
     fewer g h = omega arith
 
-pub digits-pos : (p : ℕ) → 0 < p → 0 < size p
-digits-pos p h = elim (here-or-on 0 (size p)) [ inl l ↦ l | inr g ↦ absurd (not-le-of-lt (lt-of-lt-of-le (size-lt p) (pow-mono g)) h) ]
+-- a number from 2 ^ j on has more than j digits
+pub digits-over : (p j : ℕ) → 2 ^ j ≤ p → j < size p
+digits-over p j h = lt-of-not-le (λ (g : size p ≤ j). not-le-of-lt (lt-of-lt-of-le (size-lt p) (pow-mono g)) h)
 
 -- ---- a significand
 
@@ -61,15 +62,7 @@ significand-pos b p = elim (here-or-on b (2 ^ 23)) [
 
 -- a significand has 24 digits at most
 pub zeros-ge : (m : ℕ) → m < 2 ^ 24 → 40 ≤ leadingZeros 64 m
-zeros-ge m l =
-    let t = leading-length 64 m (omega arith) in
-    let n = t .0 in
-    let a : n < 25 = pow-lt-cancel (lt-of-le-of-lt (t .3) (twice l)) in
-    let e = t .1 in
-    omega arith
-  where
-    twice : m < 2 ^ 24 → 2 * m + 1 < 2 ^ 25
-    twice h = omega arith
+zeros-ge m l = let e = digits-of m (omega arith) in let f = size-le m 24 l in omega arith
 
 pub exponent-pos : (b : ℕ) → 1 ≤ exponentOf b
 exponent-pos b = omega arith

@@ -4,7 +4,7 @@ use mathlib.Core.Logic.{_⊎_, inl, inr}
 use mathlib.Core.Bool.{Bool, false, cond}
 use lib.Dec.{ltb, lt→ltb}
 use Prim.Native.Nat.{ℕ, zero, suc, _+_, _-_, _*_, _/_, _%_, _^_, _≤_, _<_, max, compare}
-use native.Mathlib.Nat.{le-trans, le-of-eq, lt-of-lt-of-le, lt-of-le-of-lt, lt-of-not-le, not-le-of-lt, eq-or-lt-of-le, mul-comm, mul-assoc, mul-left-comm, mul-right-comm, mul-pos, mul-le-mul-right, mul-lt-mul-of-pos-right, le-div-iff-mul-le, div-lt-iff-lt-mul}
+use native.Mathlib.Nat.{le-trans, le-of-eq, lt-of-lt-of-le, lt-of-le-of-lt, eq-or-lt-of-le, mul-comm, mul-assoc, mul-left-comm, mul-right-comm, mul-pos, mul-le-mul-right, mul-lt-mul-of-pos-right, le-div-iff-mul-le, div-lt-iff-lt-mul}
 use native.Mathlib.Omega.{arith}
 use lib.Pow.{pow-pos, pow-mono, pow-lt, pow-add, high, low}
 use lib.Count.{trailingZeros}
@@ -16,6 +16,7 @@ use lib.Ieee.Nearest.{closest, closest-same, div-same, nearest-ge}
 use Rattle.float.proofs.Numbers.{here-or-on}
 use Rattle.float.proofs.Patterns.{small, normal, units-is}
 use Rattle.subnormal.specs.Packing.{beyond, dropped, pattern}
+use Rattle.subnormal.proofs.Apart.{digits-over}
 
 -- ---- q * 2 ^ k units, q of 24 digits or fewer, have the pattern k * 2 ^ 23 + q: where the leading digit is at its place it adds one to the exponent's field
 
@@ -127,7 +128,7 @@ module _ (N M w t s k : ℕ) (some : 0 < M) (shift : s + w ≡ t + k) (hi : N * 
       go (inr l) =
           let a = size-le W (24 + k) W-lt in
           let b : 2 ^ (23 + k) ≤ W = le-div-iff-mul-le den-pos .1 l in
-          let c : 23 + k < size W = lt-of-not-le (λ (g : size W ≤ 23 + k). not-le-of-lt (lt-of-lt-of-le (size-lt W) (pow-mono g)) b) in
+          let c : 23 + k < size W = digits-over W (23 + k) b in
           omega arith
 
   kept-is : closest (N * 2 ^ w * 2 ^ 149) (M * 2 ^ (t + 149) * 2 ^ k) ≡ closest N (M * 2 ^ s)

@@ -14,7 +14,7 @@ use Rattle.float.specs.Arithmetic.{_*f_}
 use Rattle.float.proofs.Numbers.{mul-lt-pow}
 use Rattle.subnormal.specs.Parts.{significandOf, exponentOf}
 use Rattle.subnormal.specs.Packing.{dropped, pattern}
-use Rattle.subnormal.proofs.Apart.{Parts, digits-pos, exponent-pos}
+use Rattle.subnormal.proofs.Apart.{Parts, digits-over, exponent-pos}
 use Rattle.subnormal.proofs.Packed.{packs}
 
 -- ---- the product: ma * mb * 2 ^ (ea + eb - 2) over 2 ^ 298, and twice ma * mb over 2 ^ (301 - (ea + eb))
@@ -76,4 +76,4 @@ module _ (x y : Float) (X : Parts x) (Y : Parts y) (small : exponentOf (toBits b
       last i g = omega arith
 
       reaches : 0 < p → 2 ^ (size p - 1) * 1 ≤ p
-      reaches h = le-trans (le-of-eq (mul-one (2 ^ (size p - 1)))) (size-reaches p (size p - 1) (last (size p) (digits-pos p h)))
+      reaches h = le-trans (le-of-eq (mul-one (2 ^ (size p - 1)))) (size-reaches p (size p - 1) (last (size p) (digits-over p 0 h)))

@@ -2,7 +2,7 @@
 use mathlib.Core.Path.{_≡_, sym, ap, _∙_, subst}
 use mathlib.Core.Bool.{true, false, cond}
 use Prim.Native.Nat.{ℕ, suc, _+_, _-_, _*_, _/_, _^_, _≤_, _<_}
-use native.Mathlib.Nat.{le-trans, le-of-eq, le-of-lt, lt-of-lt-of-le, lt-of-le-of-lt, mul-comm, mul-assoc, mul-left-comm, mul-mul-mul-comm, mul-pos, mul-le-mul-right, mul-le-mul-left, lt-irrefl, lt-of-not-le, not-le-of-lt, le-div-iff-mul-le, div-lt-iff-lt-mul, div-mul-le-self, pow-succ'}
+use native.Mathlib.Nat.{le-trans, le-of-eq, le-of-lt, lt-of-lt-of-le, lt-of-le-of-lt, mul-comm, mul-assoc, mul-left-comm, mul-mul-mul-comm, mul-pos, mul-le-mul-right, mul-le-mul-left, lt-irrefl, le-div-iff-mul-le, div-lt-iff-lt-mul, div-mul-le-self, pow-succ'}
 use native.Mathlib.Omega.{arith}
 use lib.Dec.{T, eqb, ltb→lt, eqb→eq, not-T}
 use lib.Pow.{pow-pos, pow-mono, pow-add, shl-lt}
@@ -18,7 +18,7 @@ use Rattle.float.specs.Arithmetic.{_/f_}
 use Rattle.float.proofs.Numbers.{pow-lt-cancel}
 use Rattle.subnormal.specs.Parts.{significandOf, exponentOf}
 use Rattle.subnormal.specs.Packing.{dropped, pattern, halves}
-use Rattle.subnormal.proofs.Apart.{Parts, exponent-pos}
+use Rattle.subnormal.proofs.Apart.{Parts, digits-over, exponent-pos}
 use Rattle.subnormal.proofs.Rounded.{doubled, by-halves}
 use Rattle.subnormal.proofs.Packed.{packs}
 
@@ -110,7 +110,7 @@ module _ (x y : Float) (X : Parts x) (Y : Parts y) (lead : 2 ^ 23 ≤ significan
   h-short = size-le h 27 h-lt
 
   pub h-long : 25 < size h
-  h-long = lt-of-not-le (λ (g : size h ≤ 25). not-le-of-lt (lt-of-lt-of-le (size-lt h) (pow-mono g)) (let e = Q-ge in omega arith))
+  h-long = digits-over h 25 (let e = Q-ge in omega arith)
 
   -- 2 * n / my has the digits of h
   above : 0 < h → 2 ^ (size h - 1) * my ≤ 2 * n
