@@ -493,6 +493,7 @@ fn cells_are_counted_by_one_over_the_cell() {
 fn the_least_and_the_largest_cell() {
     let dim = |hi, cell| Grid::build(&[], Vec3::ZERO, hi, cell).dim;
     assert_eq!(dim(Vec3::new(0.0005, 0.00095, 0.0), 0.0001), [5, 10, 1]);
+    assert_eq!(dim(Vec3::splat(0.0003), 0.0001), [4, 4, 4]);
     assert_eq!(dim(Vec3::new(4.0, 1.0, 1.0), 0.0001), [512, 512, 512]);
     assert_eq!(dim(Vec3::new(4.0, 1.0, 10_000.0), 10_000.0), [1, 1, 1]);
 }

@@ -54,13 +54,10 @@ pub count-range : (x : Float) → (1 ≤ cellCount x) × (cellCount x ≤ 512)
 unfolding cellCount
 count-range x = (omega arith, omega arith)
 
--- patterns of an operand and of its root: 4, 2, the least subnormal, the largest number, 1, the two zeros, +∞, -1 and -∞ (NaN is written 7FC00000)
+-- patterns of an operand and of its root: the largest number, 1, the two zeros, +∞, -1 and -∞ (NaN is written 7FC00000); more are in crates/facts
 abbrev pub roots : List (ℕ × ℕ)
 roots =
-    (0x4080_0000, 0x4000_0000)
-    ∷ (0x4000_0000, 0x3fb5_04f3)
-    ∷ (0x0000_0001, 0x1a35_04f3)
-    ∷ (0x7f7f_ffff, 0x5f7f_ffff)
+    (0x7f7f_ffff, 0x5f7f_ffff)
     ∷ (0x3f80_0000, 0x3f80_0000)
     ∷ (0x0000_0000, 0x0000_0000)
     ∷ (0x8000_0000, 0x8000_0000)

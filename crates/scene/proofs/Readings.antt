@@ -1,7 +1,6 @@
--- What the definitions say, read back: how a march and a shadow begin, the empty scene, and worked examples. Assumes nothing.
+-- What the definitions say, read back: how a march and a shadow begin, and the empty scene. Assumes nothing.
 use mathlib.Core.Path.{_≡_, refl, sym, _∙_, ap}
 use mathlib.Core.Bool.{true, false}
-use mathlib.Core.List.{[], _∷_, map}
 use Prim.Native.Nat.{ℕ, zero, suc, _+_, _≤_}
 use native.Mathlib.Numerals.{add-one}
 use native.Mathlib.Omega.{arith}
@@ -18,7 +17,7 @@ use Rattle.field.proofs.Chosen.{chosen}
 use Rattle.scene.specs.declared.Found.the-variants.{None}
 use Rattle.scene.specs.declared.Openings.{Openings}
 use Rattle.scene.specs.declared.Traced.{Traced}
-use Rattle.vector.specs.Halton.{ofWhole, radicalInverse, inverseFrom}
+use Rattle.vector.specs.Halton.{ofWhole}
 use Rattle.scene.specs.Marching.{along, tolerance, traceFrom, trace}
 use Rattle.scene.specs.Shading.{approach, visible, softShadow}
 use Rattle.scene.specs.Directions.{direction}
@@ -109,8 +108,3 @@ module _ (s : Scene) (no-planes : s .planes ≡ 0) (no-objects : s .objects ≡ 
   empty-open p n tmax h =
       ap (λ (o : Openings). record { sky = ofWhole (o .missed) /f ofWhole 16; evals = o .evals }) (empty-rays p n tmax 16 h)
       ∙ ap (λ (x : Float). record { sky = x; evals = 16 }) all-open
-
--- the radical inverses of 1, 2, 3 and 6 in base 2: 0.5, 0.25, 0.75 and 0.375
-pub inverses : map (radicalInverse 2) (1 ∷ 2 ∷ 3 ∷ 6 ∷ []) ≡ map (ofBits binary32) (0x3f00_0000 ∷ 0x3e80_0000 ∷ 0x3f40_0000 ∷ 0x3ec0_0000 ∷ [])
-unfolding radicalInverse inverseFrom ofBits ofInt add mul div
-inverses = refl

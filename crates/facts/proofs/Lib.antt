@@ -1,0 +1,2 @@
+-- The facts hold.
+pub mod Held

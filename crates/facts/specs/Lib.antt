@@ -1,0 +1,2 @@
+-- The facts and what they speak of.
+pub mod Facts
