@@ -6,6 +6,7 @@ mod known;
 mod misfits;
 mod overruns;
 mod ranges;
+mod records;
 mod resets;
 mod rooms;
 mod stops;
@@ -34,6 +35,7 @@ pub fn all() -> Vec<Case> {
     counts::write(&mut script);
     ranges::write(&mut script);
     misfits::write(&mut script);
+    records::write(&mut script);
     script.show_all();
     script.list
 }
@@ -234,6 +236,11 @@ impl Script {
     /// A reset of lists of these lengths: the light, direct, irr and rad.
     fn reset(&mut self, lengths: [usize; 4]) -> Vec<u32> {
         self.ask("reset", lengths.map(|length| length as u32).to_vec())
+    }
+
+    /// A reset of four records to so many floats of the light.
+    fn records(&mut self, length: usize) -> Vec<u32> {
+        self.ask("records", vec![length as u32])
     }
 
     /// The first places of a table, so many, sixteen to a line.

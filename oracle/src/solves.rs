@@ -33,6 +33,9 @@ impl Told {
     }
 }
 
+/// Four records, lent as one list: three floats each of direct, of irr and of rad.
+const RECORD_FLOATS: u32 = 12;
+
 /// The result words: a refusal's number alone, else zero and the answer; of the four questions that
 /// show a table its words, sixteen from a place on.
 pub fn answer(r: &mut Room, case: &Case) -> Vec<u32> {
@@ -49,6 +52,7 @@ pub fn answer(r: &mut Room, case: &Case) -> Vec<u32> {
             },
         ),
         "reset" => reset(r, [w[0], w[1], w[2], w[3]]),
+        "records" => reset(r, [w[0], RECORD_FLOATS, RECORD_FLOATS, RECORD_FLOATS]),
         "irr" => return shown(&r.irr, w[0]),
         "rad" => return shown(&r.rad, w[0]),
         "scratch" => return shown(&r.scratch, w[0]),

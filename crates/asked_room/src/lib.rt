@@ -1,9 +1,11 @@
 // The solve and the reset of a stored room, and their answers as words.
 mod cutting;
+mod recording;
 mod resetting;
 mod solving;
 mod words;
 
+pub use recording::reset_records;
 use replay::Words;
 pub use resetting::reset;
 pub use solving::solve;

@@ -5,6 +5,8 @@ use Prim.Native.Nat.{ℕ}
 use lib.Ieee.{Float}
 use Rattle.solve.specs.Answers.{solveAnswer}
 use Rattle.reset.specs.Resetting.{resetAnswer}
+use Rattle.records.specs.Columns.{directs, irrs, rads}
+use Rattle.records.specs.declared.Light.{Light as LightRecord}
 use Rattle.transfer.specs.Room.{Room, Light}
 use Rattle.reset.specs.declared.ResetAnswer.{ResetAnswer}
 use Rattle.reset.specs.declared.ResetAnswer.the-variants as Reset
@@ -32,3 +34,11 @@ abbrev pub interflectReset : List Float → List Float → List Float → List F
 interflectReset light direct irr rad =
     let a = resetAnswer light direct irr rad in
     (resetLeft (a .0), a .1, a .2, a .3)
+
+-- a number with the three columns of the records that a call left
+abbrev pub recordsLeft : ℕ → List LightRecord → ℕ × List Float × List Float × List Float
+recordsLeft number rs = (number, directs rs, irrs rs, rads rs)
+
+-- a reset of records is the reset of their columns
+abbrev pub interflectResetRecords : List Float → List LightRecord → ℕ × List Float × List Float × List Float
+interflectResetRecords light rs = interflectReset light (directs rs) (irrs rs) (rads rs)

@@ -1,5 +1,5 @@
-// The C interface: each entry under the name `interflect_..`, over numbers, slices and `&mut` to a
-// number.
+// The C interface: entries under the name `interflect_..`, over numbers, slices and `&mut` to a number.
+// Placement, clusters, rows and room files have libraries of their own.
 //
 // No function here asks anything of its caller.
 mod floats;
@@ -16,6 +16,7 @@ pub use scenes::interflect_normal;
 pub use scenes::interflect_soft_shadow;
 pub use scenes::interflect_trace;
 pub use solves::interflect_reset;
+pub use solves::interflect_reset_records;
 pub use solves::interflect_solve;
 pub use surfels::interflect_gather;
 pub use surfels::interflect_gather_all;

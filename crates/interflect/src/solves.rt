@@ -1,10 +1,11 @@
 // The solve and the reset. Each returns 0, or the number of the refusal and then writes nothing.
+use records::Light;
 use reset::ResetAnswer;
 use solve::SolveAnswer;
 ghost use mathlib.Core.Path.{_≡_};
 ghost use Rattle.transfer.specs.Room.{roomIn, lightIn, lightOut};
 ghost use Rattle.interflect.specs.Outs.{statsOuts};
-ghost use Rattle.interflect.specs.Solves.{interflectSolve, interflectReset};
+ghost use Rattle.interflect.specs.Solves.{resetLeft, recordsLeft, interflectSolve, interflectReset, interflectResetRecords};
 
 // Bounces the light of n surfels until the last change is under 0.0001 or the limit is made:
 // bounces becomes how many were made, change the greatest absolute step of any channel of rad in
@@ -78,6 +79,22 @@ pub extern "C" fn interflect_reset(
         ≡ interflectReset (now (light .entry)) (now (direct .entry)) (now (irr .entry)) (now (rad .entry)) ⌝ }
 {
     let answer = reset::reset(light, direct, irr, rad);
+    reset_number(answer)
+}
+
+// Sets direct and rad of each record to the given light, three floats a record, and irr to zero.
+#[no_mangle]
+pub extern "C" fn interflect_reset_records(light: &[f32], records: &mut [Light]) -> u32
+    ensures { λ r. ⌜ recordsLeft r (now (records .exit)) ≡ interflectResetRecords (now (light .entry)) (now (records .entry)) ⌝ }
+{
+    let answer = records::reset_records(light, records);
+    reset_number(answer)
+}
+
+// The number that a reset was refused with, 0 where it was done.
+fn reset_number(answer: ResetAnswer) -> u32
+    ensures { λ r. ⌜ r ≡ resetLeft answer ⌝ }
+{
     match answer {
         ResetAnswer::Refused(number) => number,
         ResetAnswer::Done => 0,

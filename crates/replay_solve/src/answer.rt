@@ -17,6 +17,9 @@ pub fn to(s: Stored, line: &[u8]) -> Asked {
     if (operands.count == 4) & named(line, b"reset") {
         return asked_room::reset(s, lengths(w));
     }
+    if (operands.count == 1) & named(line, b"records") {
+        return asked_room::reset_records(s, length(w));
+    }
     Asked {
         stored: s,
         words: shown(s, line, operands),
@@ -42,6 +45,11 @@ fn lengths(w: [u32; 16]) -> Lengths {
         irr: w[2] as usize,
         rad: w[3] as usize,
     }
+}
+
+// How many floats of the light are lent to a reset of records.
+fn length(w: [u32; 16]) -> usize {
+    w[0] as usize
 }
 
 // What a table holds from a place on.

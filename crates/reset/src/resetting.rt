@@ -29,7 +29,7 @@ pub fn reset(light: &[f32], direct: &mut [f32], irr: &mut [f32], rad: &mut [f32]
 }
 
 // The number that refuses a reset to this light of lists of these lengths, 0 if none does.
-fn refusal(light: &[f32], direct: usize, irr: usize, rad: usize) -> u32
+pub fn refusal(light: &[f32], direct: usize, irr: usize, rad: usize) -> u32
     ensures { λ r. ⌜ r ≡ resetRefusal (now (light .entry)) direct irr rad ⌝ }
 {
     let within = lists_within(light.len(), direct, irr, rad);

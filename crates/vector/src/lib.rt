@@ -11,14 +11,15 @@ pub use flat::put;
 pub use flat::put_float;
 pub use tangent::frame;
 
-// Three floats: a point, a direction, or light in three channels.
+// Three floats: a point, a direction, or light in three channels. For C it is x, y, z in this order.
+#[repr(C)]
 pub struct Vec3 {
     pub x: f32,
     pub y: f32,
     pub z: f32,
 }
 
-// Two directions that stand square to a normal and to each other.
+// Two directions that stand square to a normal of length 1 and to each other.
 pub struct Tangents {
     pub t: Vec3,
     pub b: Vec3,

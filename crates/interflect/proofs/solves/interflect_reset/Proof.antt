@@ -1,13 +1,10 @@
--- `interflect::solves::interflect_reset` meets its contract. The answer is taken apart. Assumes nothing.
+-- `interflect::solves::interflect_reset` meets its contract. It tells the number of what `reset` answers. Assumes nothing.
 use borrow.Author.Needs.{needs}
 use Rattle.interflect.proofs.solves.interflect_reset.Statement.{statement}
 use Rattle.interflect.proofs.solves.interflect_reset.Tie as tie
 
 returns : tie.Need-returns
-returns c = rw (← c .before .before .before .before .before .before .before .before .before .reset .ensures, c .before .answer .given .1)
-
-returns-2 : tie.Need-returns-2
-returns-2 c = rw (← c .before .before .before .before .before .before .before .before .reset .ensures, c .enum-told .given .1)
+returns c = rw (c .reset-number .ensures, ← c .before .before .before .before .before .before .before .reset .ensures)
 
 pub interflect-reset-spec : {M : Type 1} → statement M
-interflect-reset-spec = tie.close (tie.spec (λ c κs. search needs) (λ c. search needs) (λ c. search needs) (λ c. search needs) (λ c. search needs) (λ c. search needs) returns (λ c. search needs) (λ c. search needs) (λ c. search needs) returns-2)
+interflect-reset-spec = tie.close (tie.spec (λ c κs. search needs) (λ c κs. search needs) (λ c. search needs) (λ c. search needs) (λ c. search needs) returns)
