@@ -1,8 +1,9 @@
 -- What the number of the first test that failed says of the tests. Assumes nothing.
-use mathlib.Core.Bool.{Bool, true, false}
+use mathlib.Core.Bool.{Bool, true, false, cond}
 use mathlib.Core.List.{List, [], _∷_, _++_}
-use mathlib.Core.Path.{_≡_, refl}
-use Prim.Native.Nat.{ℕ, zero, suc}
+use mathlib.Core.Logic.{_⊎_, inl, inr}
+use mathlib.Core.Path.{_≡_, refl, ap}
+use Prim.Native.Nat.{ℕ, zero, suc, _≤_}
 use native.Mathlib.Omega.{arith}
 use Rattle.accept.specs.Refusal.{unless, firstFailed}
 
@@ -51,3 +52,34 @@ unfolding firstFailed
 first-failed-before [] m h = absurd (h refl)
 first-failed-before ((k, true) ∷ l) m h = first-failed-before l m h
 first-failed-before ((k, false) ∷ l) m h = refl
+
+-- the numbers of the tests rise
+abbrev pub AllFrom : ℕ → List (ℕ × Bool) → Type 0
+AllFrom k [] = Unit
+AllFrom k ((number, passed) ∷ l) = (k ≤ number) × AllFrom k l
+
+abbrev pub Rising : List (ℕ × Bool) → Type 0
+Rising [] = Unit
+Rising ((number, passed) ∷ l) = AllFrom number l × Rising l
+
+-- a test with the number k failed
+abbrev pub Failed : ℕ → List (ℕ × Bool) → Type 0
+Failed k [] = ⊥
+Failed k ((number, passed) ∷ l) = ((number ≡ k) × (passed ≡ false)) ⊎ Failed k l
+
+all-from : (n k : ℕ) (l : List (ℕ × Bool)) → AllFrom n l → Failed k l → n ≤ k
+all-from n k [] a f = absurd f
+all-from n k ((number, passed) ∷ l) a (inl f) = let h = a .0 in let e = f .0 in omega arith
+all-from n k ((number, passed) ∷ l) a (inr f) = all-from n k l (a .1) f
+
+-- where their numbers rise, the number of the first that failed is the lowest of all that failed
+pub lowest : (l : List (ℕ × Bool)) → Rising l → (k : ℕ) → Failed k l → firstFailed l ≤ k
+unfolding firstFailed
+lowest [] r k f = absurd f
+lowest ((number, false) ∷ l) r k (inl f) = let e = f .0 in omega arith
+lowest ((number, false) ∷ l) r k (inr f) = all-from number k l (r .0) f
+lowest ((number, true) ∷ l) r k (inl f) = absurd (true-false (f .1))
+  where
+    true-false : true ≡ false → ⊥
+    true-false e = let z : _≡_ {A = ℕ} 0 1 = ap (λ (b : Bool). cond b 0 1) e in absurd (omega arith)
+lowest ((number, true) ∷ l) r k (inr f) = lowest l (r .1) k f

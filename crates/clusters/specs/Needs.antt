@@ -81,7 +81,7 @@ pub record Ranged (n m : ℕ) (first count members : List ℕ) : Type 0 where
   pub within : (k : ℕ) → k < m → numberAt first k + numberAt count k ≤ length members
   pub below : (k : ℕ) → k < m → Below n members (numberAt first k) (numberAt first k + numberAt count k)
 
--- n entries fit into each column of clusters, n numbers into the members and the scratch
+-- n entries fit into each column of clusters, and n numbers into the members
 pub record Roomy (n : ℕ) (l : Columns) : Type 0 where
   pub centres : 3 * n ≤ length (l .p)
   pub normals : 3 * n ≤ length (l .n)

@@ -1,4 +1,4 @@
--- What the definitions say, read back: which of two parts is nearer, what NaN does, what `project` answers, and the empty scene. Assumes nothing.
+-- What the definitions say, read back: which of two parts is nearer, what NaN and a capsule with equal ends do, what `project` answers, and the empty scene. Assumes nothing.
 use mathlib.Core.Path.{_≡_, refl, _∙_, ap, subst}
 use mathlib.Core.Bool.{Bool, true, false, cond}
 use Prim.Native.Nat.{ℕ, zero, suc, _+_}
@@ -12,7 +12,9 @@ use Rattle.vector.specs.declared.Vec3.{Vec3}
 use Rattle.vector.specs.Vector.{vec, zeroVec, plus, scaled, over, lengthOf}
 use Rattle.vector.specs.Fold.{fold}
 use Rattle.sdf.specs.declared.Shape.{Shape}
+use Rattle.sdf.specs.declared.Shape.the-variants.{Capsule}
 use Rattle.sdf.specs.Distance.{dist as shapeDist}
+use Rattle.sdf.proofs.Ends.{equal-ends}
 use Rattle.tables.specs.Tables.{Scene}
 use Rattle.field.specs.declared.DistHit.{DistHit}
 use Rattle.field.specs.declared.Projected.{Projected}
@@ -42,6 +44,19 @@ pub nan-base : (shape : ℕ → Shape) (b f m : ℕ) (p : Vec3) → shapeDist (s
     → partDist shape (record { base = b; first = f; many = 1; mat = m }) p ≡ neg (shapeDist (shape f) p)
 unfolding partDist fold greater isNan
 nan-base shape b f m p h = ap (λ (d : Float). greater d (neg (shapeDist (shape (f + 0)) p))) h ∙ ap (λ (k : ℕ). neg (shapeDist (shape k) p)) (add-zero f)
+
+-- a capsule with equal ends: alone it is never nearest, and one subtracted primitive leaves its own distance, negated
+module _ (shape : ℕ → Shape) (b f m : ℕ) (a p : Vec3) (r : Float) (flat : shape b ≡ Capsule a a r) where
+  flat-dist : shapeDist (shape b) p ≡ nan
+  unfolding shapeDist
+  flat-dist = rw flat (equal-ends a r p)
+
+  pub capsule-alone : (best : DistHit) → nearer best (record { d = partDist shape (record { base = b; first = f; many = 0; mat = m }) p; mat = m }) ≡ best
+  unfolding partDist fold
+  capsule-alone best = rw flat-dist (nan-never-nearer best m)
+
+  pub capsule-less : partDist shape (record { base = b; first = f; many = 1; mat = m }) p ≡ neg (shapeDist (shape f) p)
+  capsule-less = nan-base shape b f m p flat-dist
 
 module _ (s : Scene) (eps diag : Float) where
   -- an answered point passes both tests

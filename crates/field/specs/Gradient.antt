@@ -1,4 +1,4 @@
--- The normal of the surface at a point, from four distances round it: document 01, 'Distance and marching', in the order of the Rust's float steps. Definitions only.
+-- The normal of the surface at a point, from four distances round it: the Rust's `Scene::normal`, in the order of its float steps. Definitions only.
 use mathlib.Core.Bool.{cond}
 use Prim.Native.Nat.{ℕ}
 use lib.Dec.{eqb}

@@ -64,7 +64,7 @@ numbersPass b =
     numbersFit (r .n) (r .clusters .nc) (r .clusters .members) (r .rows .links) (r .clusters .first) (r .clusters .count) (r .clusters .member) (r .rows .starts)
     (r .rows .cluster)
 
--- the tests in their order, each with its number; of the file no more than `most` bytes are taken, and the call's own test of 4 is lent
+-- the tests in their order, each with its number; a file of over `most` bytes fails the first, and the call's own test of 4 is `lent`
 abbrev pub tests : List ℕ → ℕ → Bool → List (ℕ × Bool)
 tests b most lent =
     (1, formed b most) ∷ (2, fewEnough (countsIn b)) ∷ (3, boxed (boxOfFile b)) ∷ (4, lent) ∷ (5, floatsPass b) ∷ (7, numbersPass b) ∷ []

@@ -17,7 +17,7 @@ pub record Inside (b : List ℕ) (col : Column) : Type 0 where
   pub last : entryFrom col (col .count) ≤ words b + 16
   pub each : (i : ℕ) → i < col .count → entryFrom col i + col .width ≤ words b
 
--- the file has the words that its counts say, which are numbers of 32 bits
+-- the file has the words that its counts say, and not so many (2^40) that a sum of places would wrap
 pub record Ends (b : List ℕ) (c : Counts) : Type 0 where
   pub few : words b ≤ 1099511627776
   pub whole : endOf c ≤ words b

@@ -11,8 +11,9 @@ ghost use Rattle.formfactor.specs.Lent.{diagonal, emittersIn, settingIn}
 ghost use Rattle.formfactor.specs.Answers.{buildAnswer, scratchOpen};
 
 // Builds the rows of n surfels over nc clusters: row i has its links from starts[i] up to
-// starts[i + 1]. A row whose links do not fit the shorter of the two link slices is answered with its
-// number, after the rows before it. Scratch holds one row at a time.
+// starts[i + 1]. A row whose links do not fit the shorter of the two link slices, of which at most
+// 16,777,216 places are used, is answered with its number, after the rows before it. Scratch holds one
+// row at a time.
 pub fn build(
     prims: usize,
     planes: usize,

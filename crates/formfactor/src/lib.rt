@@ -10,8 +10,8 @@ mod linking;
 
 pub use entries::build;
 
-// A row that was made: how many links it has, the sum of their weights, and how many distances were
-// evaluated.
+// A row that was made: how many links it has, the sum of their weights before they were scaled, itself
+// scaled and at most 1, and how many distances were evaluated.
 pub struct RowMade {
     pub links: usize,
     pub sum: f32,

@@ -30,7 +30,7 @@ pub fn cells(lo: Vec3, hi: Vec3, cell: f32) -> usize
     dim.x * dim.y * dim.z
 }
 
-// The cell that p lies in; a point outside the box counts for the nearest cell.
+// The cell that p lies in; a point outside the cells counts for the nearest.
 pub fn cell_of(p: Vec3, lo: Vec3, inv_cell: f32, dim: Dims) -> Cell
     ensures { λ r. ⌜ r ≡ cellOf p lo «inv_cell» dim ⌝ }
 {

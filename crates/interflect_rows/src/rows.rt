@@ -1,5 +1,5 @@
 // Transfer rows. It returns 0, or the number of the refusal; refused with 2 to 6 it writes nothing,
-// with 8 the rows before the one that did not fit, and that one's number.
+// with 8 the rows before the one that did not fit, its start, its number, and scratch.
 use formfactor::BuildAnswer;
 use vector::Vec3;
 ghost use mathlib.Core.Path.{_≡_};
@@ -14,8 +14,8 @@ ghost use Rattle.interflect_rows.specs.Rows.{interflectBuild};
 
 // Builds the rows of n surfels over nc clusters: links becomes how many links they have,
 // mean_row_sum the mean of the row sums over the rows with links, evals how many distances were
-// evaluated. Where a row does not fit the shorter link slice, row becomes its number. link and weight
-// are scratch.
+// evaluated. Where a row does not fit the shorter link slice, of which at most 16,777,216 places are
+// used, row becomes its number. link and weight are scratch.
 #[no_mangle]
 pub extern "C" fn interflect_build(
     prims: usize,

@@ -1,5 +1,5 @@
--- Which seeds are kept as surfels: document 01, 'Placement'. Seeds in order, each kept where it lands on the surface within the bounds, and no point kept before it in a neighbouring
--- cell is at a squared distance under the square of the least distance. Definitions only.
+-- Which seeds are kept as surfels: document 01, 'Placement'. Seeds in order, each kept where it lands on the surface within the bounds, and no point kept before it in its own or a
+-- neighbouring cell is at a squared distance under the square of the least distance. Definitions only.
 use mathlib.Core.Bool.{Bool, cond, not, _&&_}
 use mathlib.Core.List.{List, [], _∷_, _++_}
 use Prim.Native.Nat.{ℕ, zero, suc, _+_, _*_, min}

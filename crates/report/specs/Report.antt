@@ -37,7 +37,7 @@ linesOf b =
     let q = runOfFile b in
     headLines c (q .bounces) (q .last) ++ rows (λ i. readingLine i (readingOfFile b i)) (c .probes)
 
--- the number that refuses a file, at most 65,536 bytes of it, 0 if none does
+-- the number that refuses a file, which may have at most 65,536 bytes; 0 if none does
 abbrev pub reportRefusal : List ℕ → ℕ
 reportRefusal b = refusal b maxProgramFile (gridFits (boxOfFile b))
 

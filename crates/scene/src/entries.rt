@@ -93,7 +93,8 @@ pub fn normal(
     }
 }
 
-// What the ray from ro along rd meets between tmin and tmax.
+// What the ray from ro along rd meets from tmin on, up to tmax. The first sample is at tmin, whatever
+// tmax is.
 pub fn trace(
     prims: usize,
     planes: usize,

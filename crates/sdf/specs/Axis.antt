@@ -1,4 +1,4 @@
--- Two constants of the shapes with an axis (document 01, 'Distance and marching'). Definitions only.
+-- Two constants of the shapes with an axis, the Rust's. Definitions only.
 use lib.Ieee.{Float, binary32, ofBits}
 
 -- 0.5

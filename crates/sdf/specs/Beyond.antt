@@ -26,7 +26,7 @@ unfoldable pub beyond : Float → Float → Float → Bool
 unfolding clears bound
 beyond square r best = clears square r best (bound r best)
 
--- the same of a sphere, of a rounded box outside of which p lies, and of a capsule
+-- the same of a sphere, of a rounded box where p lies outside the box that is r further in, and of a capsule
 unfoldable pub farSphere : Vec3 → Float → Vec3 → Float → Bool
 unfolding beyond
 farSphere c r p best = beyond (lengthSquared (minus p c)) r best

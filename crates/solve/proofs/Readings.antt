@@ -8,12 +8,12 @@ use native.Mathlib.Nat.{add-zero, zero-add}
 use native.Mathlib.Numerals.{add-one}
 use native.Mathlib.Omega.{arith}
 use lib.Dec.{eqb}
-use lib.Ieee.{binary32, nan, lt, ofBits, ofFields, round, units, odd, span, climb, size}
+use lib.Ieee.{Float, binary32, nan, lt, ofBits, ofFields, round, units, odd, span, climb, size}
 use borrow.Author.Tests.{ne-eqb}
 use Rattle.float.specs.Arithmetic.{0f}
 use Rattle.accept.proofs.Decimals.{nearestTo}
 use Rattle.transfer.specs.Room.{Room, Light}
-use Rattle.solve.specs.Bounce.{leastArea}
+use Rattle.solve.specs.Bounce.{leastArea, change}
 use Rattle.solve.specs.Runs.{Run, noBounce, next, changeLimit, stopped, more, run, bounced}
 use Rattle.solve.proofs.Onward.{either, same-by}
 
@@ -71,6 +71,25 @@ more-bounced r l (suc m) q h =
 pub run-bounced : (r : Room) (m : ℕ) (l : Light) → run r m l .light ≡ bounced r (run r m l .bounces) l
 unfolding run bounced
 run-bounced r m l = either (BouncedFrom r l) (eqb (r .clusters .nc) 0) (noBounce l) (more r m (noBounce l)) refl (more-bounced r l m (noBounce l) refl)
+
+-- the step of the k-th bounce from the light l, 0 where there is none
+abbrev pub stepOf : Room → ℕ → Light → Float
+stepOf r zero l = 0f
+stepOf r (suc k) l = change r (bounced r k l .rad)
+
+-- the last change of a run is the step of its last bounce
+abbrev SteppedFrom : Room → Light → Run → Type 0
+SteppedFrom r l q = (q .light ≡ bounced r (q .bounces) l) × (q .last ≡ stepOf r (q .bounces) l)
+
+more-stepped : (r : Room) (l : Light) (m : ℕ) (q : Run) → SteppedFrom r l q → SteppedFrom r l (more r m q)
+unfolding more next bounced
+more-stepped r l zero q h = h
+more-stepped r l (suc m) q h =
+    either (SteppedFrom r l) (stopped (q .bounces) (q .last)) q (more r m (next r q)) h (more-stepped r l m (next r q) (rw (add-one (q .bounces), h .0), rw (add-one (q .bounces), h .0)))
+
+pub run-stepped : (r : Room) (m : ℕ) (l : Light) → run r m l .last ≡ stepOf r (run r m l .bounces) l
+unfolding run bounced
+run-stepped r m l = either (SteppedFrom r l) (eqb (r .clusters .nc) 0) (noBounce l) (more r m (noBounce l)) (refl, refl) (more-stepped r l m (noBounce l) (refl, refl)) .1
 
 -- ---- when it stops
 

@@ -45,7 +45,7 @@ byAnswer (Done made) refused ran = ran
 
 -- "the first starts from the room as given, each later one from the surfels the run before it left, and nobody else writes these meanwhile"; "the solves that aren't refused get
 -- the same room, all but irr and rad, and any scratch; a refused one may be handed anything, other surfels too, and the next goes on from the room's own". Rooms are compared as
--- cut to their need: what a list holds past it is free.
+-- cut to their need: what a list holds past it is free. So g is a room cut to its need; of one in longer lists take its cut.
 abbrev pub Chain : LitRoom → List Call → Type 0
 Chain g [] = Unit
 Chain g (c ∷ cs) = byAnswer (outcome c .0) (Chain g cs) ((cut (c .handed) ≡ g) × Chain (cut (left c)) cs)

@@ -1,5 +1,6 @@
 // The surfels' irr, from the light of the clusters that their rows link to.
 use crate::faint_rows::faint_irr;
+use accept::lesser;
 use accept::wide;
 use vector::Vec3;
 ghost use mathlib.Core.Path.{_≡_};
@@ -120,14 +121,6 @@ fn two_rows(
         sums.second,
     );
     TwoRows { first, second }
-}
-
-// A number that is at most either.
-fn lesser(m: usize, o: usize) -> usize
-    ensures { λ r. ⌜ r ≤ m ⌝ }
-    ensures { λ r. ⌜ r ≤ o ⌝ }
-{
-    if m < o { m } else { o }
 }
 
 // The sums over so many links from a on and from b on.

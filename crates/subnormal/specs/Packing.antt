@@ -16,6 +16,6 @@ dropped p t = beyond p t + t - 64
 abbrev pub pattern : ℕ → ℕ → ℕ
 pattern p t = beyond p t * 2 ^ 23 + closest p (2 ^ dropped p t)
 
--- twice n / d, and 1 more where a remainder is left: it rounds as 2 * n / d does wherever a digit of it is dropped
+-- twice n / d, and 1 more where a remainder is left: it rounds as 2 * n / d does wherever two or more of its digits are dropped
 abbrev pub halves : ℕ → ℕ → ℕ
 halves n d = 2 * (n / d) + min 1 (n % d)

@@ -34,8 +34,8 @@ pub struct Weighed {
     pub weight: f32,
 }
 
-// The light at a point, or that it is unseen: the weights of the surfels near it sum to 0.000001 at
-// most.
+// The light at a point, or that it is unseen: the weights of the surfels near it do not exceed
+// 0.000001, as a NaN does not.
 pub enum Reading {
     Seen(Vec3),
     Unseen,

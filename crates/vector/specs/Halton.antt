@@ -10,7 +10,7 @@ use Rattle.float.specs.Arithmetic.{_+f_, _*f_, _/f_, 0f, 1f}
 abbrev pub ofWhole : ℕ → Float
 ofWhole n = ofInt binary32 (pos n)
 
--- r and the digits of i, at most `left` of them, the first weighed by f / base
+-- r and the digits of i, at most `left` of them, the first weighed by f × (1 / base)
 unfoldable pub inverseFrom : ℕ → ℕ → Float → Float → ℕ → Float
 inverseFrom base zero f r i = r
 inverseFrom base (suc left) f r i =

@@ -22,19 +22,19 @@ both-light-requires c κs =
     let s = c .before .before .before .before .before .before .before .before .before .before .before .before .before in
     let i = row-held (s .pre .0) (s .args .i) (s .pre .1 .0) (c .before .before .before .before .before .before .before .wide .ensures) (c .before .before .before .wide3 .ensures) in
     let k = row-held (s .pre .0) (s .args .k) (s .pre .1 .1) (c .before .before .before .before .before .wide2 .ensures) (c .before .wide4 .ensures) in
-    (i .1 _ (c .lesser .ensures .0), (k .1 _ (c .lesser .ensures .1), s .pre .0 .each))
+    (i .1 _ (omega (arith, c .lesser .ensures)), (k .1 _ (omega (arith, c .lesser .ensures)), s .pre .0 .each))
 
 row-light-requires : tie.Need-row-light-requires
 row-light-requires c κs =
     let s = c .before .before .before .before .before .before .before .before .before .before .before .before .before .before in
     let i = row-held (s .pre .0) (s .args .i) (s .pre .1 .0) (c .before .before .before .before .before .before .before .before .wide .ensures) (c .before .before .before .before .wide3 .ensures) in
-    (c .before .lesser .ensures .0, (i .1 _ (omega arith), (s .pre .0 .each, c .both-light .ensures .0)))
+    (omega (arith, c .before .lesser .ensures), (i .1 _ (omega arith), (s .pre .0 .each, c .both-light .ensures .0)))
 
 row-light-requires-2 : tie.Need-row-light-requires-2
 row-light-requires-2 c κs =
     let s = c .before .before .before .before .before .before .before .before .before .before .before .before .before .before .before in
     let k = row-held (s .pre .0) (s .args .k) (s .pre .1 .1) (c .before .before .before .before .before .before .before .wide2 .ensures) (c .before .before .before .wide4 .ensures) in
-    (c .before .before .lesser .ensures .1, (k .1 _ (omega arith), (s .pre .0 .each, c .before .both-light .ensures .1)))
+    (omega (arith, c .before .before .lesser .ensures), (k .1 _ (omega arith), (s .pre .0 .each, c .before .both-light .ensures .1)))
 
 returns : tie.Need-returns
 returns c =
