@@ -2,6 +2,7 @@
 //! refusal at its limits. That more than 400,000 records, or more than 1,200,000 floats of light, are 2
 //! can't be asked here.
 
+use super::resets::{amounts, good};
 use super::*;
 
 pub(super) fn write(script: &mut Script) {
@@ -18,12 +19,6 @@ fn tried(script: &mut Script, length: usize) -> Vec<u32> {
     let answer = script.records(length);
     script.show_first(["direct", "irr", "rad"]);
     answer
-}
-
-/// Every float another.
-fn good(script: &mut Script) {
-    let light: Vec<u32> = (0..36).map(|k| word(0.23 * (k + 1) as f32)).collect();
-    script.table("put_light", &light);
 }
 
 /// Twelve floats are four records' light; more or fewer are refused.
@@ -52,22 +47,7 @@ fn kept(script: &mut Script) {
 
 /// The ends of the light's range and beyond, in the first place, in the last, and just past it.
 fn ranges(script: &mut Script) {
-    let most = 1_000_000.0f32;
-    let floats = [
-        (0.0, true),
-        (-0.0, true),
-        (LEAST, true),
-        (-LEAST, false),
-        (most, true),
-        (most.next_down(), true),
-        (most.next_up(), false),
-        (-1.0, false),
-        (f32::MAX, false),
-        (INF, false),
-        (-INF, false),
-        (NAN, false),
-    ];
-    for (x, passes) in floats {
+    for (x, passes) in amounts() {
         for place in [0, 11, 12] {
             good(script);
             script.poke("put_light", place, word(x));

@@ -27,7 +27,7 @@ fn tried(script: &mut Script, kind: &'static str, lengths: [usize; 4]) -> Vec<u3
 }
 
 /// Twelve surfels' light, every float another.
-fn good(script: &mut Script) {
+pub(super) fn good(script: &mut Script) {
     let light: Vec<u32> = (0..36).map(|k| word(0.37 * (k + 1) as f32)).collect();
     script.table("put_light", &light);
 }
@@ -86,11 +86,10 @@ fn unequal(script: &mut Script) {
     }
 }
 
-/// The ends of the light's range and beyond, in the first place, in the last that is lent, in one
-/// between, and just past it.
-fn ranges(script: &mut Script) {
+/// Light at the ends of its range and beyond, and whether it passes.
+pub(super) fn amounts() -> [(f32, bool); 13] {
     let most = 1_000_000.0f32;
-    let floats = [
+    [
         (0.0, true),
         (-0.0, true),
         (LEAST, true),
@@ -104,8 +103,13 @@ fn ranges(script: &mut Script) {
         (INF, false),
         (-INF, false),
         (NAN, false),
-    ];
-    for (x, passes) in floats {
+    ]
+}
+
+/// The ends of the light's range and beyond, in the first place, in the last that is lent, in one
+/// between, and just past it.
+fn ranges(script: &mut Script) {
+    for (x, passes) in amounts() {
         for place in [0, 7, 14, 15] {
             good(script);
             script.poke("put_light", place, word(x));
