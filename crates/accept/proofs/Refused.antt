@@ -72,7 +72,18 @@ all-from n k [] a f = absurd f
 all-from n k ((number, passed) ∷ l) a (inl f) = let h = a .0 in let e = f .0 in omega arith
 all-from n k ((number, passed) ∷ l) a (inr f) = all-from n k l (a .1) f
 
--- where their numbers rise, the number of the first that failed is the lowest of all that failed
+-- the number is 0, or that of a test that failed
+pub one-that-failed : (l : List (ℕ × Bool)) → (firstFailed l ≡ 0) ⊎ Failed (firstFailed l) l
+unfolding firstFailed
+one-that-failed [] = inl refl
+one-that-failed ((number, false) ∷ l) = inr (inl (refl, refl))
+one-that-failed ((number, true) ∷ l) = later (one-that-failed l)
+  where
+    later : (firstFailed l ≡ 0) ⊎ Failed (firstFailed l) l → (firstFailed l ≡ 0) ⊎ (((number ≡ firstFailed l) × (true ≡ false)) ⊎ Failed (firstFailed l) l)
+    later (inl e) = inl e
+    later (inr f) = inr (inr f)
+
+-- where their numbers rise, it is not above that of any test that failed: so it is the lowest of them
 pub lowest : (l : List (ℕ × Bool)) → Rising l → (k : ℕ) → Failed k l → firstFailed l ≤ k
 unfolding firstFailed
 lowest [] r k f = absurd f

@@ -13,12 +13,7 @@ pub fn points_of_q() {
     let p = [3.5, 0.5, 0.5, 0.5, 0.5, 0.5, 0.5, 0.5, 0.5, 1.5, 0.5, 0.5];
     let mut starts = [0u32; 5];
     let mut items = [0u32; 4];
-    let hi = Vec3 {
-        x: 4.0,
-        y: 1.0,
-        z: 1.0,
-    };
-    let answer = grid::grid_build(4, &p, Vec3::zero(), hi, 1.0, &mut starts, &mut items);
+    let answer = grid::grid_build(4, &p, Vec3::zero(), hi_of_q(), 1.0, &mut starts, &mut items);
     io::write_all(
         STDOUT_FILENO,
         b"x = 3.5, 0.5, 0.5, 1.5 in the grid of room Q: cells, starts, items\n",
@@ -26,6 +21,15 @@ pub fn points_of_q() {
     print_words(words_of(answer));
     print_words(shown(&starts, 0));
     print_words(shown(&items, 0));
+}
+
+// The corner of room Q's box that lies opposite to 0 0 0.
+pub fn hi_of_q() -> Vec3 {
+    Vec3 {
+        x: 4.0,
+        y: 1.0,
+        z: 1.0,
+    }
 }
 
 // Prints what cells of 0, 0.0001 and 10,000 are answered with, the first and the second in a box of

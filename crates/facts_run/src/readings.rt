@@ -1,4 +1,5 @@
 // Room Q read at its surfel, with radius 1 and with radius 0.
+use crate::grids;
 use crate::solves;
 use libc::STDOUT_FILENO;
 use replay::Words;
@@ -30,11 +31,7 @@ fn read_q(irr: [f32; 3], radius: f32) -> GatherAnswer {
         y: 0.0,
         z: 1.0,
     };
-    let hi = Vec3 {
-        x: 4.0,
-        y: 1.0,
-        z: 1.0,
-    };
+    let hi = grids::hi_of_q();
     grid::grid_build(1, &p, Vec3::zero(), hi, 1.0, &mut starts, &mut items);
     surfel::gather(
         1,

@@ -6,8 +6,10 @@ use replay::print_words;
 use replay::short;
 use solve::SolveAnswer;
 
-// Room Q as solves left it: how many bounces the last made, its last change, and the light.
+// Room Q as solves left it: the number that refused the last, 0 if none did, how many bounces it made,
+// its last change, and the light.
 pub struct SolvedQ {
+    pub number: u32,
     pub bounces: usize,
     pub change: f32,
     pub irr: [f32; 3],
@@ -15,8 +17,8 @@ pub struct SolvedQ {
     pub light: [f32; 3],
 }
 
-// Prints the bounces, the last change, irr, rad and the cluster's light after each solve, and whether
-// two solves leave what one does.
+// Prints what each solve answers, and irr, rad and the cluster's light after it, and whether two solves
+// leave what one does.
 pub fn limits_of_q() {
     let five = solve_q(5, reset_q());
     let two = solve_q(2, five);
@@ -26,7 +28,7 @@ pub fn limits_of_q() {
     print_words(words_of(two));
     io::write_all(STDOUT_FILENO, b"room Q, limit 7\n");
     print_words(words_of(seven));
-    if alike(five.bounces, two, seven) {
+    if alike(five, two, seven) {
         io::write_all(
             STDOUT_FILENO,
             b"as many bounces, the same last change and light\n",
@@ -39,6 +41,7 @@ pub fn limits_of_q() {
 // Room Q after a reset.
 pub fn reset_q() -> SolvedQ {
     SolvedQ {
+        number: 0,
         bounces: 0,
         change: 0.0,
         irr: [0.0; 3],
@@ -47,7 +50,7 @@ pub fn reset_q() -> SolvedQ {
     }
 }
 
-// Room Q after a further solve with this limit, unchanged if that is refused.
+// Room Q after a further solve with this limit.
 pub fn solve_q(limit: usize, q: SolvedQ) -> SolvedQ {
     let mut irr = q.irr;
     let mut rad = q.rad;
@@ -72,24 +75,34 @@ pub fn solve_q(limit: usize, q: SolvedQ) -> SolvedQ {
         &mut rad,
         &mut light,
     );
-    let SolveAnswer::Done(made) = answer else {
-        return q;
-    };
-    SolvedQ {
-        bounces: made.bounces,
-        change: made.change,
-        irr,
-        rad,
-        light,
+    match answer {
+        SolveAnswer::Refused(number) => SolvedQ {
+            number,
+            bounces: 0,
+            change: 0.0,
+            irr,
+            rad,
+            light,
+        },
+        SolveAnswer::Done(made) => SolvedQ {
+            number: 0,
+            bounces: made.bounces,
+            change: made.change,
+            irr,
+            rad,
+            light,
+        },
     }
 }
 
-// The eleven words of a solved room.
+// The twelve words of a solved room.
 fn words_of(q: SolvedQ) -> Words {
     let irr = q.irr;
     let rad = q.rad;
     let light = q.light;
-    let words = Words::none().with(short(q.bounces)).with_float(q.change);
+    let words = refused(q.number)
+        .with(short(q.bounces))
+        .with_float(q.change);
     let words = words
         .with_float(irr[0])
         .with_float(irr[1])
@@ -104,10 +117,12 @@ fn words_of(q: SolvedQ) -> Words {
         .with_float(light[2])
 }
 
-// Whether a solve of so many bounces and one after it make as many bounces as one solve, end with the
-// same last change, and leave the same light, bit for bit.
-fn alike(before: usize, last: SolvedQ, once: SolvedQ) -> bool {
-    let bounces = short(before) as u64 + short(last.bounces) as u64 == short(once.bounces) as u64;
+// Whether no solve was refused, and two make as many bounces as one, end with the same last change, and
+// leave the same light, bit for bit.
+fn alike(first: SolvedQ, last: SolvedQ, once: SolvedQ) -> bool {
+    let done = (first.number == 0) & (last.number == 0) & (once.number == 0);
+    let bounces = short(first.bounces) as u64 + short(last.bounces) as u64
+        == short(once.bounces) as u64;
     let change = bits_of(last.change) == bits_of(once.change);
     let irr = last.irr;
     let once_irr = once.irr;
@@ -116,7 +131,7 @@ fn alike(before: usize, last: SolvedQ, once: SolvedQ) -> bool {
     let light = last.light;
     let once_light = once.light;
     let same = same_bits(irr, once_irr) & same_bits(rad, once_rad) & same_bits(light, once_light);
-    bounces & change & same
+    done & bounces & change & same
 }
 
 // Whether two vectors have the same bits.

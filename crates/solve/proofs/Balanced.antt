@@ -1,4 +1,4 @@
--- A bounce takes the right side of the radiosity balance, so that a bounce does not change rad just where rad is in balance, and a run that stopped is in balance up to 0.0001. Assumes nothing.
+-- A bounce takes the right side of the radiosity balance, so that a bounce does not change rad just where rad is in balance, and the light before the last bounce of a run that stopped was in balance up to a step under 0.0001. Assumes nothing.
 use mathlib.Core.Bool.{Bool, true, cond}
 use mathlib.Core.List.{List}
 use mathlib.Core.Path.{_≡_, refl, sym, ap, _∙_}
@@ -43,6 +43,6 @@ near-by r m l (suc k) e h =
       step-small = ap (λ (x : Float). lt x changeLimit) (sym (run-stepped r m l ∙ ap (λ (t : ℕ). stepOf r t l) e)) ∙ (rw (lt-ltb 0 (suc k) (omega arith)) at h);
     }
 
--- a run that stopped is in balance up to 0.0001, at the light before its last bounce
+-- the light before the last bounce of a run that stopped was in balance up to a step under 0.0001
 pub settled-near : (r : Room) (m : ℕ) (l : Light) → stopped (run r m l .bounces) (run r m l .last) ≡ true → NearBalance r m l (bounced r (before (run r m l .bounces)) l)
 settled-near r m l h = near-by r m l _ refl h

@@ -34,8 +34,8 @@ abbrev pub before : ℕ → ℕ
 before zero = 0
 before (suc k) = k
 
--- a run that stopped left the right side at the light b before its last bounce, and the greatest step of a channel from b to that is under 0.0001, a NaN passed over: it is in balance
--- up to this step
+-- the light b, before the last bounce of a run that stopped, was in balance up to a step under 0.0001: that is the greatest step of a channel from b to the right side at b, a NaN passed
+-- over, and that right side is what the run left. How far a further bounce would go is not said
 pub record NearBalance (r : Room) (m : ℕ) (l b : Light) : Type 0 where
   pub right-side-left : (i : ℕ) → i < r .n → vecAt (run r m l .light .rad) i ≡ rightSide r (b .rad) i
   pub step-small : lt (greatestStep (vecAt (b .rad)) (rightSide r (b .rad)) (r .n)) changeLimit ≡ true
