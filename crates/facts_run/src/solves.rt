@@ -3,6 +3,7 @@ use float::bits_of;
 use libc::STDOUT_FILENO;
 use replay::Words;
 use replay::print_words;
+use replay::refused;
 use replay::short;
 use solve::SolveAnswer;
 
