@@ -10,15 +10,10 @@ use Rattle.records.specs.declared.Light.{Light as LightRecord}
 use Rattle.transfer.specs.Room.{Room, Light}
 use Rattle.reset.specs.declared.ResetAnswer.{ResetAnswer}
 use Rattle.reset.specs.declared.ResetAnswer.the-variants as Reset
-use Rattle.solve.specs.declared.SolveAnswer.{SolveAnswer}
-use Rattle.solve.specs.declared.SolveAnswer.the-variants as Solve
 use Rattle.solve.specs.declared.SolveStats.{SolveStats}
+use Rattle.outs.specs.Solves.{solveLeft}
 
--- what each answer leaves: a refusal its number, else 0 and the answer's own numbers
-abbrev pub solveLeft : SolveAnswer → SolveStats → ℕ × SolveStats
-solveLeft (Solve.Refused number) held = (number, held)
-solveLeft (Solve.Done made) held = (0, made)
-
+-- what a reset answers: a refusal's number, else 0
 abbrev pub resetLeft : ResetAnswer → ℕ
 resetLeft (Reset.Refused number) = number
 resetLeft Reset.Done = 0

@@ -7,40 +7,11 @@ use Rattle.vector.specs.declared.Vec3.{Vec3}
 use Rattle.grid.specs.Answers.{gridBuildAnswer, nearAnswer}
 use Rattle.grid.specs.Lent.{Grid}
 use Rattle.grid.specs.declared.Dims.{Dims}
-use Rattle.grid.specs.declared.GridAnswer.{GridAnswer}
-use Rattle.grid.specs.declared.GridAnswer.the-variants as Built
-use Rattle.grid.specs.declared.NearAnswer.{NearAnswer}
-use Rattle.grid.specs.declared.NearAnswer.the-variants as Near
 use Rattle.surfel.specs.Checks.{Probes}
-use Rattle.surfel.specs.Answers.{gatherAnswer, gatherAllAnswer, seenNumber, seenLight}
+use Rattle.surfel.specs.Answers.{gatherAnswer, gatherAllAnswer}
 use Rattle.surfel.specs.Gathering.{Surfels}
-use Rattle.surfel.specs.declared.GatherAllAnswer.{GatherAllAnswer}
-use Rattle.surfel.specs.declared.GatherAllAnswer.the-variants as All
-use Rattle.surfel.specs.declared.GatherAnswer.{GatherAnswer}
-use Rattle.surfel.specs.declared.GatherAnswer.the-variants as One
-use Rattle.surfel.specs.declared.Reading.{Reading}
-use Rattle.interflect.specs.Outs.{ReadingOut}
-
--- what each answer leaves: a refusal its number, else 0 and the answer's own numbers
-abbrev pub gridLeft : GridAnswer → Dims → ℕ × Dims
-gridLeft (Built.Refused number) held = (number, held)
-gridLeft (Built.Done d) held = (0, d)
-
-abbrev pub nearLeft : NearAnswer → ℕ → ℕ × ℕ
-nearLeft (Near.Refused number) held = (number, held)
-nearLeft (Near.Done count) held = (0, count)
-
--- 1 and the light, or 0 and zeros
-abbrev pub readingLeft : Reading → ReadingOut
-readingLeft r = record { seen = seenNumber r; light = seenLight r }
-
-abbrev pub gatherLeft : GatherAnswer → ReadingOut → ℕ × ReadingOut
-gatherLeft (One.Refused number) held = (number, held)
-gatherLeft (One.Done r) held = (0, readingLeft r)
-
-abbrev pub gatherAllLeft : GatherAllAnswer → ℕ
-gatherAllLeft (All.Refused number) = number
-gatherAllLeft All.Done = 0
+use Rattle.outs.specs.Outs.{ReadingOut}
+use Rattle.outs.specs.Surfels.{gridLeft, nearLeft, gatherLeft, gatherAllLeft}
 
 -- the entries
 abbrev pub interflectGridBuild : ℕ → List Float → Vec3 → Vec3 → Float → Dims → List ℕ → List ℕ → ℕ × Dims × List ℕ × List ℕ

@@ -1,17 +1,9 @@
 // The queries on a scene. Each returns 0, or the number of the refusal and then writes nothing.
-use scene::ClosureAnswer;
-use scene::DistAnswer;
-use scene::Found;
-use scene::NormalAnswer;
-use scene::ShadowAnswer;
-use scene::TraceAnswer;
-use scene::Traced;
 use vector::Vec3;
 ghost use mathlib.Core.Path.{_≡_};
 ghost use Rattle.vector.specs.Vector.{vec};
 ghost use Rattle.tables.specs.Tables.{sceneIn};
-ghost use Rattle.interflect.specs.Outs.{distOuts, vecOuts, hitOuts, traceOuts, shadowOuts, closureOuts};
-ghost use Rattle.interflect.specs.Scenes.{tracedLeft};
+ghost use Rattle.outs.specs.Outs.{distOuts, vecOuts, hitOuts, traceOuts, shadowOuts, closureOuts};
 ghost use Rattle.interflect.specs.Scenes.{interflectDistMat, interflectNormal, interflectTrace, interflectSoftShadow, interflectHemisphereClosure};
 
 // The distance from x y z to the nearest of the scene, and its material.
@@ -43,14 +35,7 @@ pub extern "C" fn interflect_dist_mat(
         object_parts,
         Vec3 { x, y, z },
     );
-    match answer {
-        DistAnswer::Refused(number) => number,
-        DistAnswer::Done(nearest) => {
-            *d = nearest.d;
-            *mat = nearest.mat;
-            0
-        }
-    }
+    outs::tell_nearest(answer, d, mat)
 }
 
 // The normal at x y z.
@@ -83,15 +68,7 @@ pub extern "C" fn interflect_normal(
         object_parts,
         Vec3 { x, y, z },
     );
-    match answer {
-        NormalAnswer::Refused(number) => number,
-        NormalAnswer::Done(n) => {
-            *nx = n.x;
-            *ny = n.y;
-            *nz = n.z;
-            0
-        }
-    }
+    outs::tell_normal(answer, nx, ny, nz)
 }
 
 // What the ray from ro along rd meets first: hit becomes 1 and where it met is written, or 0 and
@@ -149,50 +126,7 @@ pub extern "C" fn interflect_trace(
         tmin,
         tmax,
     );
-    match answer {
-        TraceAnswer::Refused(number) => number,
-        TraceAnswer::Done(traced) => {
-            store_traced(traced, hit, t, px, py, pz, nx, ny, nz, mat, evals);
-            0
-        }
-    }
-}
-
-// Stores what a ray met into the outs of `interflect_trace`.
-fn store_traced(
-    traced: Traced,
-    hit: &mut u32,
-    t: &mut f32,
-    px: &mut f32,
-    py: &mut f32,
-    pz: &mut f32,
-    nx: &mut f32,
-    ny: &mut f32,
-    nz: &mut f32,
-    mat: &mut u32,
-    evals: &mut u32,
-)
-    ensures { λ _. ⌜ traceOuts hit (hitOuts t px py pz nx ny nz mat) evals .exit
-        ≡ tracedLeft traced (traceOuts hit (hitOuts t px py pz nx ny nz mat) evals .entry) ⌝ }
-{
-    *evals = traced.evals;
-    let found = traced.found;
-    match found {
-        Found::At(h) => {
-            *hit = 1;
-            *t = h.t;
-            *px = h.p.x;
-            *py = h.p.y;
-            *pz = h.p.z;
-            *nx = h.n.x;
-            *ny = h.n.y;
-            *nz = h.n.z;
-            *mat = h.mat;
-        }
-        Found::None => {
-            *hit = 0;
-        }
-    }
+    outs::tell_traced(answer, hit, t, px, py, pz, nx, ny, nz, mat, evals)
 }
 
 // How much of a light along rd is seen from ro, from 0 to 1.
@@ -243,14 +177,7 @@ pub extern "C" fn interflect_soft_shadow(
         tmax,
         k,
     );
-    match answer {
-        ShadowAnswer::Refused(number) => number,
-        ShadowAnswer::Done(shadow) => {
-            *visibility = shadow.visibility;
-            *evals = shadow.evals;
-            0
-        }
-    }
+    outs::tell_shadow(answer, visibility, evals)
 }
 
 // The part of the hemisphere round n, above p, that sees no surface within tmax.
@@ -297,12 +224,5 @@ pub extern "C" fn interflect_hemisphere_closure(
         },
         tmax,
     );
-    match answer {
-        ClosureAnswer::Refused(number) => number,
-        ClosureAnswer::Done(closure) => {
-            *sky = closure.sky;
-            *evals = closure.evals;
-            0
-        }
-    }
+    outs::tell_closure(answer, sky, evals)
 }

@@ -1,10 +1,9 @@
 // The solve and the reset. Each returns 0, or the number of the refusal and then writes nothing.
 use records::Light;
 use reset::ResetAnswer;
-use solve::SolveAnswer;
 ghost use mathlib.Core.Path.{_≡_};
 ghost use Rattle.transfer.specs.Room.{roomIn, lightIn, lightOut};
-ghost use Rattle.interflect.specs.Outs.{statsOuts};
+ghost use Rattle.outs.specs.Outs.{statsOuts};
 ghost use Rattle.interflect.specs.Solves.{resetLeft, recordsLeft, interflectSolve, interflectReset, interflectResetRecords};
 
 // Bounces the light of n surfels until the last change is under 0.0001 or the limit is made:
@@ -57,14 +56,7 @@ pub extern "C" fn interflect_solve(
         rad,
         scratch,
     );
-    match answer {
-        SolveAnswer::Refused(number) => number,
-        SolveAnswer::Done(made) => {
-            *bounces = made.bounces;
-            *change = made.change;
-            0
-        }
-    }
+    outs::tell_solved(answer, bounces, change)
 }
 
 // Sets direct and rad to the given light and irr to zero.

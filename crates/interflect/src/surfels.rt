@@ -1,17 +1,12 @@
 // The grid and the reading. Each returns 0, or the number of the refusal and then writes nothing.
-use grid::GridAnswer;
-use grid::NearAnswer;
-use surfel::GatherAllAnswer;
-use surfel::GatherAnswer;
-use surfel::Reading;
 use vector::Vec3;
 ghost use mathlib.Core.Path.{_≡_};
 ghost use Rattle.vector.specs.Vector.{vec};
 ghost use Rattle.grid.specs.Lent.{gridIn};
 ghost use Rattle.surfel.specs.Checks.{probesIn};
 ghost use Rattle.surfel.specs.Gathering.{surfelsIn};
-ghost use Rattle.interflect.specs.Outs.{dimsOuts, readingOuts};
-ghost use Rattle.interflect.specs.Surfels.{readingLeft, interflectGridBuild, interflectNear, interflectGather, interflectGatherAll};
+ghost use Rattle.outs.specs.Outs.{dimsOuts, readingOuts};
+ghost use Rattle.interflect.specs.Surfels.{interflectGridBuild, interflectNear, interflectGather, interflectGatherAll};
 
 // Puts n points into the cells of the box from lo to hi: starts has where each cell begins in
 // items, and dx, dy, dz become how many cells there are on each axis.
@@ -47,15 +42,7 @@ pub extern "C" fn interflect_grid_build(
         z: hiz,
     };
     let answer = grid::grid_build(n, p, lo, hi, cell, starts, items);
-    match answer {
-        GridAnswer::Refused(number) => number,
-        GridAnswer::Done(dim) => {
-            *dx = dim.x;
-            *dy = dim.y;
-            *dz = dim.z;
-            0
-        }
-    }
+    outs::tell_dims(answer, dx, dy, dz)
 }
 
 // Lists the numbers of the points in the cells within reach of the one that px py pz lies in, and
@@ -99,13 +86,7 @@ pub extern "C" fn interflect_near(
         z: pz,
     };
     let answer = grid::near(n, starts, items, lo, hi, cell, p, reach, list);
-    match answer {
-        NearAnswer::Refused(number) => number,
-        NearAnswer::Done(listed) => {
-            *count = listed;
-            0
-        }
-    }
+    outs::tell_listed(answer, count)
 }
 
 // The light at atx aty atz with the normal nx ny nz: seen becomes 1 and x y z the light, or 0 and
@@ -175,33 +156,7 @@ pub extern "C" fn interflect_gather(
         normal,
         radius,
     );
-    match answer {
-        GatherAnswer::Refused(number) => number,
-        GatherAnswer::Done(reading) => {
-            store_reading(reading, seen, x, y, z);
-            0
-        }
-    }
-}
-
-// A reading written through references.
-fn store_reading(reading: Reading, seen: &mut u32, x: &mut f32, y: &mut f32, z: &mut f32)
-    ensures { λ r. ⌜ readingOuts seen x y z .exit ≡ readingLeft reading ⌝ }
-{
-    match reading {
-        Reading::Seen(light) => {
-            *seen = 1;
-            *x = light.x;
-            *y = light.y;
-            *z = light.z;
-        }
-        Reading::Unseen => {
-            *seen = 0;
-            *x = 0.0;
-            *y = 0.0;
-            *z = 0.0;
-        }
-    }
+    outs::tell_reading(answer, seen, x, y, z)
 }
 
 // The light at each of many probes: seen becomes 1 and light the light, or 0 and zeros where the
@@ -259,8 +214,5 @@ pub extern "C" fn interflect_gather_all(
         seen,
         light,
     );
-    match answer {
-        GatherAllAnswer::Refused(number) => number,
-        GatherAllAnswer::Done => 0,
-    }
+    outs::readings_number(answer)
 }

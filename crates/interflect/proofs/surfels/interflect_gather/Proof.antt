@@ -1,15 +1,12 @@
--- `interflect::surfels::interflect_gather` meets its contract. The answer is taken apart; a reading is stored. Assumes nothing.
+-- `interflect::surfels::interflect_gather` meets its contract. It tells what the entry answers. Assumes nothing.
 use borrow.Author.Needs.{needs}
+use Rattle.outs.specs.Surfels.{gatherLeft}
+use Rattle.interflect.proofs.Told.{told}
 use Rattle.interflect.proofs.surfels.interflect_gather.Statement.{statement}
 use Rattle.interflect.proofs.surfels.interflect_gather.Tie as tie
 
 returns : tie.Need-returns
-returns c = rw (← c .before .before .before .gather .ensures, c .before .answer .given .1)
-
-returns-2 : tie.Need-returns-2
-returns-2 c =
-    let done = c .before .before .before .before .before .before in
-    rw (← done .before .before .gather .ensures, done .answer2 .given .1, c .store-reading .ensures)
+returns c = told gatherLeft (c .tell-reading .ensures) (c .before .before .before .before .before .gather .ensures)
 
 pub interflect-gather-spec : {M : Type 1} → statement M
-interflect-gather-spec = tie.close (tie.spec (λ c κs. search needs) (λ c. search needs) (λ c. search needs) (λ c κs. search needs) returns returns-2)
+interflect-gather-spec = tie.close (tie.spec (λ c κs. search needs) (λ c κs. search needs) returns)

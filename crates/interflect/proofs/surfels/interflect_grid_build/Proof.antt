@@ -1,13 +1,16 @@
--- `interflect::surfels::interflect_grid_build` meets its contract. The answer is taken apart. Assumes nothing.
+-- `interflect::surfels::interflect_grid_build` meets its contract. It tells what the entry answers, and each slice keeps its length. Assumes nothing.
 use borrow.Author.Needs.{needs}
+use Rattle.outs.specs.Surfels.{gridLeft}
+use Rattle.interflect.proofs.Told.{told-with-two}
 use Rattle.interflect.proofs.surfels.interflect_grid_build.Statement.{statement}
 use Rattle.interflect.proofs.surfels.interflect_grid_build.Tie as tie
 
-returns : tie.Need-returns
-returns c = rw (← c .before .before .before .before .before .before .before .grid-build .ensures, c .before .answer .given .1)
+-- the call of the entry
+abbrev call : tie.After-tell-dims → tie.After-grid-build
+call c = c .before .before .before .before .before .before .before .before
 
-returns-2 : tie.Need-returns-2
-returns-2 c = rw (← c .before .before .before .before .before .before .before .grid-build .ensures, c .before .answer2 .given .1)
+returns : tie.Need-returns
+returns c = let u = call c .grid-build .ensures in told-with-two gridLeft (c .tell-dims .ensures) u
 
 pub interflect-grid-build-spec : {M : Type 1} → statement M
-interflect-grid-build-spec = tie.close (tie.spec (λ c κs. search needs) (λ c. search needs) (λ c. search needs) (λ c. search needs) (λ c. search needs) returns (λ c. search needs) (λ c. search needs) returns-2)
+interflect-grid-build-spec = tie.close (tie.spec (λ c κs. search needs) (λ c κs. search needs) (λ c. call c .grid-build .kept .1 .1 .1 .1 .1 .0) (λ c. call c .grid-build .kept .1 .1 .1 .1 .1 .1 .0) returns)

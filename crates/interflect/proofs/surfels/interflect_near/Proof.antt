@@ -1,13 +1,16 @@
--- `interflect::surfels::interflect_near` meets its contract. The answer is taken apart. Assumes nothing.
+-- `interflect::surfels::interflect_near` meets its contract. It tells what the entry answers, and each slice keeps its length. Assumes nothing.
 use borrow.Author.Needs.{needs}
+use Rattle.outs.specs.Surfels.{nearLeft}
+use Rattle.interflect.proofs.Told.{told-with}
 use Rattle.interflect.proofs.surfels.interflect_near.Statement.{statement}
 use Rattle.interflect.proofs.surfels.interflect_near.Tie as tie
 
-returns : tie.Need-returns
-returns c = rw (← c .before .before .before .before .before .near .ensures, c .before .answer .given .1)
+-- the call of the entry
+abbrev call : tie.After-tell-listed → tie.After-near
+call c = c .before .before .before .before
 
-returns-2 : tie.Need-returns-2
-returns-2 c = rw (← c .before .before .before .before .before .near .ensures, c .before .answer2 .given .1)
+returns : tie.Need-returns
+returns c = let u = call c .near .ensures in told-with nearLeft (c .tell-listed .ensures) u
 
 pub interflect-near-spec : {M : Type 1} → statement M
-interflect-near-spec = tie.close (tie.spec (λ c κs. search needs) (λ c. search needs) (λ c. search needs) (λ c. search needs) returns (λ c. search needs) returns-2)
+interflect-near-spec = tie.close (tie.spec (λ c κs. search needs) (λ c κs. search needs) (λ c. call c .near .kept .1 .1 .1 .1 .1 .1 .1 .1 .0) returns)

@@ -1,2 +1,0 @@
--- The lemmas of the proofs of `interflect_room`.
-pub mod Left

@@ -1,3 +1,0 @@
--- The definitions that the contracts of `interflect_rows` cite.
-pub mod Outs
-pub mod Rows
