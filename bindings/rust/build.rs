@@ -12,6 +12,8 @@ use std::process::{self, Command};
 use std::time::SystemTime;
 
 const LIBRARY: &str = "libinterflect.a";
+/// The crate whose exports the library has.
+const EXPORTS: &str = "interflect";
 const LIB_DIR: &str = "SOKITAHE_LIB_DIR";
 const TOOLCHAIN: &str = "/opt/rattle/bin/rt";
 /// How many of rt's last lines an error shows.
@@ -64,7 +66,12 @@ fn lib_dir(folder: PathBuf) -> Result<PathBuf, String> {
 /// The folder of the library that rt builds in the repository.
 fn built_by_rt() -> Result<PathBuf, String> {
     let root = repository()?;
-    let sources = sources(&root)?;
+    let list = root.join("crates.txt");
+    let text = fs::read_to_string(&list)
+        .map_err(|error| format!("{} can't be read: {error}", list.display()))?;
+    let crates = dependencies(EXPORTS, &text);
+    let folders = crates.iter().map(|name| root.join("crates").join(name));
+    let sources: Vec<PathBuf> = folders.chain([list]).collect();
     for source in &sources {
         println!("cargo:rerun-if-changed={}", source.display());
     }
@@ -74,7 +81,7 @@ fn built_by_rt() -> Result<PathBuf, String> {
         return Ok(folder);
     }
     let begun = SystemTime::now();
-    run(&toolchain()?, &root)?;
+    build(&root, &crates)?;
     date(&library, begun).map_err(|error| {
         format!(
             "rt wrote no {} that can be used ({error}): see whether this rt is the repository's",
@@ -82,6 +89,16 @@ fn built_by_rt() -> Result<PathBuf, String> {
         )
     })?;
     Ok(folder)
+}
+
+/// Proves the crates beneath the exports and builds the library. `rt check` proves as many crates at a
+/// time as there are processors, `rt staticlib` one.
+fn build(root: &Path, crates: &BTreeSet<&str>) -> Result<(), String> {
+    let rt = toolchain()?;
+    let mut check = vec!["check"];
+    check.extend(crates.iter().filter(|name| **name != EXPORTS));
+    run(&rt, root, &check)?;
+    run(&rt, root, &["staticlib", EXPORTS])
 }
 
 /// Whether a library is there and no source has changed since its build began.
@@ -123,16 +140,6 @@ fn repository() -> Result<PathBuf, String> {
     }
 }
 
-/// What the library is made of: crates.txt, and the folder of each crate.
-fn sources(root: &Path) -> Result<Vec<PathBuf>, String> {
-    let list = root.join("crates.txt");
-    let text = fs::read_to_string(&list)
-        .map_err(|error| format!("{} can't be read: {error}", list.display()))?;
-    let names = dependencies("interflect", &text);
-    let folders = names.into_iter().map(|name| root.join("crates").join(name));
-    Ok(folders.chain([list.clone()]).collect())
-}
-
 /// A crate and all that it depends on, by lines of `NAME: what it depends on  # comment`, leaves first.
 fn dependencies<'a>(name: &'a str, text: &'a str) -> BTreeSet<&'a str> {
     let mut wanted = BTreeSet::from([name]);
@@ -159,13 +166,13 @@ fn toolchain() -> Result<PathBuf, String> {
     })
 }
 
-/// Runs `rt staticlib interflect` in the repository, with what it prints in a log.
-fn run(rt: &Path, root: &Path) -> Result<(), String> {
+/// Runs rt with these words in the repository, with what it prints in a log.
+fn run(rt: &Path, root: &Path, words: &[&str]) -> Result<(), String> {
     let log = PathBuf::from(env::var_os("OUT_DIR").unwrap_or_default()).join("rt.log");
     let in_log = |error| format!("{} can't be written: {error}", log.display());
     let file = File::create(&log).map_err(in_log)?;
     let mut command = Command::new(rt);
-    command.args(["staticlib", "interflect"]).current_dir(root);
+    command.args(words).current_dir(root);
     command
         .stdout(file.try_clone().map_err(in_log)?)
         .stderr(file);
@@ -178,7 +185,8 @@ fn run(rt: &Path, root: &Path) -> Result<(), String> {
     let text = fs::read(&log).unwrap_or_default();
     let text = String::from_utf8_lossy(&text);
     Err(format!(
-        "rt staticlib interflect failed in {} ({status}); mend what its last lines name, all of them are in {}:\n{}",
+        "rt {} failed in {} ({status}); mend what its last lines name, all of them are in {}:\n{}",
+        words[0],
         root.display(),
         log.display(),
         last_lines(&text)
