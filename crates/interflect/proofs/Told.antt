@@ -10,7 +10,7 @@ use Rattle.outs.specs.Reading.{readLeft}
 use Rattle.interflect.specs.Reading.{interflectRoomRead}
 
 module _ {A O : Type 0} (left : A → O → ℕ × O) {a : A} {held o : O} {r : ℕ} (t : (r, o) ≡ left a held) where
-  -- the entry leaves its answer alone
+  -- the entry leaves nothing beside its answer
   pub told : {all : A} → a ≡ all → (r, o) ≡ left all held
   told e = rw (← e, t)
 
