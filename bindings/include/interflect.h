@@ -496,7 +496,7 @@ uint32_t interflect_room_report(
  * Floats
  */
 
-/* The square root: the float nearest the exact root, ties to even; -0 gives -0, a negative NaN. */
+/* The square root: the float nearest the exact root, ties to even; -0 gives -0, a number below 0 NaN. */
 float interflect_sqrt(float x);
 
 /* The cell, 0 to dim - 1, that holds the coordinate x, counted in cells: the fraction is dropped, outside

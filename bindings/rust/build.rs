@@ -16,6 +16,10 @@ const LIBRARY: &str = "libinterflect.a";
 const EXPORTS: &str = "interflect";
 const LIB_DIR: &str = "SOKITAHE_LIB_DIR";
 const TOOLCHAIN: &str = "/opt/rattle/bin/rt";
+/// How many crates rt proves at a time, unless the environment says. It waits for the last of them before
+/// it takes more, so that four keep two processors busy.
+const JOBS: &str = "RT_JOBS";
+const AT_A_TIME: &str = "4";
 /// How many of rt's last lines an error shows.
 const LINES_SHOWN: usize = 20;
 
@@ -91,8 +95,8 @@ fn built_by_rt() -> Result<PathBuf, String> {
     Ok(folder)
 }
 
-/// Proves the crates beneath the exports and builds the library. `rt check` proves as many crates at a
-/// time as there are processors, `rt staticlib` one.
+/// Proves the crates beneath the exports and builds the library. `rt check` proves several crates at a
+/// time, `rt staticlib` one.
 fn build(root: &Path, crates: &BTreeSet<&str>) -> Result<(), String> {
     let rt = toolchain()?;
     let mut check = vec!["check"];
@@ -173,6 +177,9 @@ fn run(rt: &Path, root: &Path, words: &[&str]) -> Result<(), String> {
     let file = File::create(&log).map_err(in_log)?;
     let mut command = Command::new(rt);
     command.args(words).current_dir(root);
+    if env::var_os(JOBS).is_none() {
+        command.env(JOBS, AT_A_TIME);
+    }
     command
         .stdout(file.try_clone().map_err(in_log)?)
         .stderr(file);

@@ -30,7 +30,7 @@ use std::process::ExitCode;
 /// How many surfels to place at most.
 const TARGET: usize = 20_000;
 /// Voxels on an axis: the surfels in one of them that face one way become a cluster.
-const RESOLUTION: usize = 5;
+const RESOLUTION: usize = 4;
 /// The most bounces.
 const LIMIT: usize = 12;
 /// How far beyond the couch its sheets go: farther than the radius, so that unseen points show.
