@@ -1,5 +1,7 @@
 // The checks of refused calls that several entries share. Each answers for any arguments, and its
 // laws, in proofs/, give a caller the facts of a check that passed.
+#![tactic(auto)]
+
 pub mod limits;
 mod ranges;
 mod refusal;

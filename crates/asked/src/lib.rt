@@ -1,4 +1,6 @@
 // Questions about a stored scene, and their answers as words.
+#![tactic(auto)]
+
 mod ask;
 mod words;
 

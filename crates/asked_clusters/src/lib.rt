@@ -1,4 +1,6 @@
 // Clusters of what is stored, normal buckets, and their answers as words.
+#![tactic(auto)]
+
 mod clustering;
 mod cutting;
 mod reading;

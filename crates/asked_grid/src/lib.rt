@@ -1,4 +1,6 @@
 // Questions about a stored grid, and their answers as words.
+#![tactic(auto)]
+
 mod build;
 mod probes;
 mod read;

@@ -1,4 +1,6 @@
 // Surfels placed in a stored scene, and the answer as words.
+#![tactic(auto)]
+
 mod placing;
 mod words;
 

@@ -1,4 +1,6 @@
 // The solve and the reset of a stored room, and their answers as words.
+#![tactic(auto)]
+
 mod cutting;
 mod recording;
 mod resetting;

@@ -1,4 +1,6 @@
 // Rows of what is stored, and their answer as words.
+#![tactic(auto)]
+
 mod cutting;
 mod linking;
 mod reading;

@@ -1,6 +1,8 @@
 // Clusters: surfels of one voxel whose normals point along one axis, taken together as one emitter.
 //
 // The entry refuses by document 01's numbers. No public function has a `requires`.
+#![tactic(auto)]
+
 mod aggregating;
 mod building;
 mod checks;

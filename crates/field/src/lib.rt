@@ -3,6 +3,8 @@
 //
 // Every public function is total and takes any point. It checks no table: whoever is handed a scene
 // checks it once by `tables::refusal`.
+#![tactic(auto)]
+
 mod gradient;
 mod nearest;
 mod projection;

@@ -2,6 +2,8 @@
 //
 // Every public function is total: a word that the file lacks is 0, and a column is read only where the
 // file, of at most 268,435,456 bytes, has all its entries and the slice holds them.
+#![tactic(auto)]
+
 mod blocks;
 mod checks;
 mod columns;

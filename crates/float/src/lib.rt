@@ -1,6 +1,8 @@
 // Floats as document 01 has them: bits, sign, order, the casts to cells, and the square root.
 //
 // Every public function is total: any float, NaN and the infinities among them, has an answer.
+#![tactic(auto)]
+
 mod bits;
 mod cells;
 mod order;

@@ -3,6 +3,8 @@
 // A row is made in three steps: its raw links, one for each cluster that the surfel faces and sees;
 // its target, the part of the hemisphere above it that meets a surface; and the scaling of the links
 // to that target. The entry refuses by document 01's numbers. No public function has a `requires`.
+#![tactic(auto)]
+
 mod building;
 mod checks;
 mod entries;

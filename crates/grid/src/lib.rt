@@ -4,6 +4,8 @@
 // A grid is lent as `starts`, one number a cell and one more, and `items`, the numbers of the
 // points: those of cell c stand from starts[c] up to starts[c + 1]. The entries refuse by document
 // 01's numbers. No public function has a `requires`.
+#![tactic(auto)]
+
 mod blocks;
 mod building;
 mod checks;

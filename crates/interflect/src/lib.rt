@@ -2,6 +2,8 @@
 // `&mut` to a number. `rt staticlib interflect` makes one library of it.
 //
 // Each entry returns 0, or the number of the refusal. No function here asks anything of its caller.
+#![tactic(auto)]
+
 mod clustering;
 mod floats;
 mod placing;

@@ -1,4 +1,6 @@
 // A room file read into as much of each column as the words of a line say, for the replay programs.
+#![tactic(auto)]
+
 mod cutting;
 mod lending;
 mod words;

@@ -1,4 +1,6 @@
 // Placement with as much of each table as the words of a line say, for the replay programs.
+#![tactic(auto)]
+
 mod cutting;
 mod reading;
 

@@ -1,6 +1,8 @@
 // Four records by value, lent to their reset, for the replay programs.
 //
 // No public function has a `requires`.
+#![tactic(auto)]
+
 ghost use Rattle.std.specs.Prelude.{◌≡◌};
 ghost use Rattle.records.specs.Columns.{left_in, reset_columns};
 

@@ -1,6 +1,8 @@
 // The lines of a report, each made by value.
 //
 // No public function has a `requires`.
+#![tactic(auto)]
+
 mod joining;
 mod made;
 

@@ -2,6 +2,8 @@
 // should sum to, and their scaling to that.
 //
 // No public function has a `requires`.
+#![tactic(auto)]
+
 mod pairs;
 mod scaling;
 

@@ -2,6 +2,8 @@
 // with the answer's own numbers written through references.
 //
 // No function here asks anything of its caller.
+#![tactic(auto)]
+
 mod placing;
 mod reading;
 mod reporting;

@@ -2,6 +2,8 @@
 // and no surfel kept before it is too close.
 //
 // The entry refuses by document 01's numbers. No public function has a `requires`.
+#![tactic(auto)]
+
 mod chaining;
 mod checks;
 mod crowding;

@@ -3,6 +3,8 @@
 //
 // A line is a name, then words of eight hexadecimal digits, a single space before each, and a
 // newline. No public function has a `requires`.
+#![tactic(auto)]
+
 mod line;
 mod print;
 mod result;

@@ -1,6 +1,8 @@
 // Replays operations on floats and vectors. Each line of standard input is an operation's name and
 // its operands; the program prints the words of each result on a line, or `unread` where it knows no
 // such operation with that many operands.
+#![tactic(auto)]
+
 mod answer;
 
 use libc::STDIN_FILENO;

@@ -1,6 +1,8 @@
 // Replays calls for clusters and for rows. Each line of standard input stores something, which prints
 // nothing, shows what the tables hold, or asks: then the program prints the words of the answer on a
 // line, or `unread` where it knows no such question with that many operands.
+#![tactic(auto)]
+
 mod answer;
 mod show;
 

@@ -1,6 +1,8 @@
 // Replays the reading of room files. Each line of standard input puts words into a file, marks columns
 // or says how much of them is lent, which prints nothing, or asks: then the program prints the words
 // of the answer, or of a column, on a line, or `unread` where it knows no such line.
+#![tactic(auto)]
+
 mod ask;
 mod columns;
 mod show;

@@ -1,6 +1,8 @@
 // Replays reports of room files. Each line of standard input puts words into a file, which prints
 // nothing, or asks: then the program prints the report, the words of an answer on a line, or `unread`
 // where it knows no such line.
+#![tactic(auto)]
+
 mod ask;
 
 use libc::STDIN_FILENO;

@@ -1,6 +1,8 @@
 // Replays questions about a grid and its surfels. Each line of standard input stores something,
 // which prints nothing, or asks: then the program prints the words of the answer on a line, or
 // `unread` where it knows no such question with that many operands.
+#![tactic(auto)]
+
 mod answer;
 
 use libc::STDIN_FILENO;

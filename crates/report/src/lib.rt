@@ -2,6 +2,8 @@
 // that refuses the file.
 //
 // The entry refuses by document 01's numbers. No public function has a `requires`.
+#![tactic(auto)]
+
 mod entries;
 mod probing;
 mod solving;

@@ -1,6 +1,8 @@
 // A room file read into lent columns.
 //
 // The entry refuses by document 01's numbers. No public function has a `requires`.
+#![tactic(auto)]
+
 mod entries;
 mod lengths;
 mod reading;

@@ -1,4 +1,6 @@
 // Prints the report of the room file that stands on standard input.
+#![tactic(auto)]
+
 use libc::{STDIN_FILENO, STDOUT_FILENO};
 use report::ReportAnswer;
 

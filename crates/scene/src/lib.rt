@@ -3,6 +3,8 @@
 // The entries refuse by document 01's numbers. The functions of `marching`, `shading` and `opening`
 // are total and take any ray: they are for callers that have checked the scene themselves. No
 // public function has a `requires`.
+#![tactic(auto)]
+
 mod entries;
 pub mod marching;
 pub mod opening;

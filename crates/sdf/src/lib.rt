@@ -1,6 +1,8 @@
 // Seven shapes, and how far a point lies from each: above 0 outside, below 0 inside.
 //
 // Any shape and any point have an answer, NaN and the infinities among them.
+#![tactic(auto)]
+
 mod beyond;
 mod cone;
 mod cylinder;

@@ -2,6 +2,8 @@
 // comes to lie on the surface, and the surfel at such a point.
 //
 // Every public function is total. It checks no table: whoever is handed a scene checks it once.
+#![tactic(auto)]
+
 mod halton;
 mod landing;
 mod materials;

@@ -1,6 +1,8 @@
 // The solve: light that goes from surfel to surfel, bounce by bounce.
 //
 // The entry refuses by document 01's numbers. No public function has a `requires`.
+#![tactic(auto)]
+
 mod clusters;
 mod entries;
 mod faint;

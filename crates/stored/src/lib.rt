@@ -1,5 +1,7 @@
 // A scene stored line by line, as the replay programs read it. A word that a line lacks is zero;
 // what has no place is not stored.
+#![tactic(auto)]
+
 use float::of_bits;
 use replay::named;
 

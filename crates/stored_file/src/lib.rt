@@ -1,6 +1,8 @@
 // The bytes of a file stored line by line, for the replay programs.
 //
 // No public function has a `requires`.
+#![tactic(auto)]
+
 use replay::{Words, part};
 
 // No program stores more bytes.

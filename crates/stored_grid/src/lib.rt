@@ -1,6 +1,8 @@
 // A grid stored line by line, with its surfels, probes and result tables, as the replay programs
 // read them. A word that a line lacks is zero, but `put_starts` and `put_items` store no word that is
 // lacking; what has no place is not stored.
+#![tactic(auto)]
+
 mod put;
 mod show;
 

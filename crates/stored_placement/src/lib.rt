@@ -1,5 +1,7 @@
 // What a call for placement is lent beside a scene, stored line by line, as the replay program reads
 // it: materials, the columns of surfels, the scratch, and how much of each table is lent.
+#![tactic(auto)]
+
 mod columns;
 mod light;
 mod scratch;

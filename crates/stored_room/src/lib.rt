@@ -2,6 +2,8 @@
 // clusters, members, rows and light, and how much of each table a solve is lent. A line `put_` with
 // a table's name puts words into that table from a place on; a word that a line lacks is not put,
 // nor one that has no place.
+#![tactic(auto)]
+
 mod floats;
 mod lending;
 mod numbers;

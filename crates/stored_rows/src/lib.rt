@@ -1,6 +1,8 @@
 // Surfels, clusters and rows stored line by line, as the replay programs read them, and how much of
 // each table the two calls are lent. A line `put_` with a table's name puts words into that table
 // from a place on; a word that a line lacks is not put, nor one that has no place.
+#![tactic(auto)]
+
 mod cluster;
 mod members;
 mod rows;

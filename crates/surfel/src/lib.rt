@@ -2,6 +2,8 @@
 //
 // A reading is seen, with the light, or unseen: a point that no surfel covers is not dark. The
 // entries refuse by document 01's numbers. No public function has a `requires`.
+#![tactic(auto)]
+
 mod checks;
 mod entries;
 mod gathering;

@@ -4,6 +4,8 @@
 // floats a primitive, in the order of the shape's fields) and the parts of planes and objects (four
 // numbers each: base, first subtracted, how many, material). Every public function is total: a
 // float outside a table reads as NaN, a number as 0.
+#![tactic(auto)]
+
 mod checks;
 mod reading;
 

@@ -2,6 +2,8 @@
 // bytes stored in a line.
 //
 // No public function has a `requires`: a place past the end of a slice is none.
+#![tactic(auto)]
+
 mod line;
 mod number;
 mod reading;

@@ -1,6 +1,8 @@
 // A room as a solve is lent it, surfels, clusters and rows, and whether it is accepted.
 //
 // No public function has a `requires`.
+#![tactic(auto)]
+
 mod checks;
 
 pub use checks::refusal;

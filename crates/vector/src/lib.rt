@@ -1,6 +1,8 @@
 // Vectors of three floats by value, vectors of a flat slice, and the tangent frame.
 //
 // Every public function is total: what lies outside a slice reads as NaN and is not stored.
+#![tactic(auto)]
+
 mod arithmetic;
 mod flat;
 mod tangent;
