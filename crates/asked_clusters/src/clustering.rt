@@ -8,7 +8,7 @@ use replay::Words;
 use stored_rows::{Clusters, Members, Surfels};
 
 // The clusters that a call leaves, and the words of its answer.
-#[derive(Drop)]
+#[derive(Clone, Copy)]
 struct Grouped {
     clusters: Clusters,
     words: Words,

@@ -12,7 +12,7 @@ use stored_rows::{Clusters, Members};
 pub use words::bucket;
 
 // What a call for clusters leaves, and the words of its answer.
-#[derive(Drop)]
+#[derive(Clone, Copy)]
 pub struct Clustered {
     pub clusters: Clusters,
     pub members: Members,

@@ -3,7 +3,7 @@ use replay::vec;
 use vector::Vec3;
 
 // How many surfels there are, the resolution and the bounds.
-#[derive(Drop)]
+#[derive(Clone, Copy)]
 pub struct Told {
     pub n: usize,
     pub res: usize,
@@ -12,7 +12,7 @@ pub struct Told {
 }
 
 // How many places of each table are lent.
-#[derive(Drop)]
+#[derive(Clone, Copy)]
 pub struct Lent {
     pub p: usize,
     pub normals: usize,

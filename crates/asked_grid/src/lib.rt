@@ -13,7 +13,7 @@ use replay::Words;
 use stored_grid::Stored;
 
 // What a question leaves stored, and the words of its answer.
-#[derive(Drop)]
+#[derive(Clone, Copy)]
 pub struct Asked {
     pub stored: Stored,
     pub words: Words,

@@ -9,7 +9,7 @@ use replay::Words;
 use stored_placement::{Columns, Light, Scratch};
 
 // What a call for placement leaves, and the words of its answer.
-#[derive(Drop)]
+#[derive(Clone, Copy)]
 pub struct Placed {
     pub columns: Columns,
     pub light: Light,

@@ -8,7 +8,7 @@ use stored::Stored as Scene;
 use stored_placement::{Columns, Light, Scratch};
 
 // The columns that a call leaves, and the words of its answer.
-#[derive(Drop)]
+#[derive(Clone, Copy)]
 struct Filled {
     columns: Columns,
     words: Words,

@@ -14,7 +14,7 @@ pub use solving::solve;
 use stored_room::Stored;
 
 // How many surfels, clusters, members and links a solve is told of, and the limit of its bounces.
-#[derive(Drop)]
+#[derive(Clone, Copy)]
 pub struct Counts {
     pub n: usize,
     pub nc: usize,
@@ -24,7 +24,7 @@ pub struct Counts {
 }
 
 // How many places of each list a reset is lent.
-#[derive(Drop)]
+#[derive(Clone, Copy)]
 pub struct Lengths {
     pub light: usize,
     pub direct: usize,
@@ -33,7 +33,7 @@ pub struct Lengths {
 }
 
 // What a question leaves stored, and the words of its answer.
-#[derive(Drop)]
+#[derive(Clone, Copy)]
 pub struct Asked {
     pub stored: Stored,
     pub words: Words,

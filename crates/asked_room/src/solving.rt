@@ -5,7 +5,7 @@ use solve::SolveAnswer;
 use stored_room::{Lent, Stored};
 
 // The clusters of a room, and their members.
-#[derive(Drop)]
+#[derive(Clone, Copy)]
 struct Clusters {
     area: [f32; 8],
     first: [u32; 8],
@@ -14,7 +14,7 @@ struct Clusters {
 }
 
 // The rows of a room, and how much of each table is lent.
-#[derive(Drop)]
+#[derive(Clone, Copy)]
 struct Rows {
     starts: [u32; 16],
     cluster: [u32; 64],

@@ -11,7 +11,7 @@ use replay::Words;
 use stored_rows::Rows;
 
 // What a call for rows leaves, and the words of its answer.
-#[derive(Drop)]
+#[derive(Clone, Copy)]
 pub struct Linked {
     pub rows: Rows,
     pub words: Words,

@@ -3,7 +3,7 @@ use replay::vec;
 use vector::Vec3;
 
 // How many primitives, planes and objects there are.
-#[derive(Drop)]
+#[derive(Clone, Copy)]
 pub struct Counts {
     pub prims: usize,
     pub planes: usize,
@@ -11,7 +11,7 @@ pub struct Counts {
 }
 
 // The same, how many surfels and clusters there are, and the bounds.
-#[derive(Drop)]
+#[derive(Clone, Copy)]
 pub struct Told {
     pub prims: usize,
     pub planes: usize,
@@ -23,7 +23,7 @@ pub struct Told {
 }
 
 // How many places of each table are lent.
-#[derive(Drop)]
+#[derive(Clone, Copy)]
 pub struct Lent {
     pub p: usize,
     pub normals: usize,

@@ -17,7 +17,7 @@ use vector::Vec3;
 
 // A group of surfels as one emitter: its centre, its normal, its area, and the radius of a disc with
 // that area.
-#[derive(Drop)]
+#[derive(Clone, Copy)]
 pub struct Cluster {
     pub p: Vec3,
     pub n: Vec3,
@@ -27,7 +27,7 @@ pub struct Cluster {
 
 // A box cut into res voxels on each axis: where it begins, and how many voxels a unit of length
 // takes.
-#[derive(Drop)]
+#[derive(Clone, Copy)]
 pub struct Voxels {
     pub lo: Vec3,
     pub inv: Vec3,
@@ -35,7 +35,7 @@ pub struct Voxels {
 }
 
 // Members summed: places and normals by area, and the areas.
-#[derive(Drop)]
+#[derive(Clone, Copy)]
 pub struct Sums {
     pub p: Vec3,
     pub n: Vec3,
@@ -43,14 +43,14 @@ pub struct Sums {
 }
 
 // How many clusters were made, and how many members they have in all.
-#[derive(Drop)]
+#[derive(Clone, Copy)]
 pub struct Clustered {
     pub clusters: usize,
     pub members: usize,
 }
 
 // What the entry answers: refused with a number, or done.
-#[derive(Drop)]
+#[derive(Clone, Copy)]
 pub enum ClustersAnswer {
     Refused(u32),
     Done(Clustered),

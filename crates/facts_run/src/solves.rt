@@ -6,7 +6,7 @@ use solve::SolveAnswer;
 
 // Room Q as solves left it: the number that refused the last, 0 if none did, how many bounces it made,
 // its last change, and the light.
-#[derive(Drop)]
+#[derive(Clone, Copy)]
 pub struct SolvedQ {
     pub number: u32,
     pub bounces: usize,

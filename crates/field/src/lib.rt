@@ -15,14 +15,14 @@ pub use projection::project;
 use vector::Vec3;
 
 // A distance, and the material of what lies at it.
-#[derive(Drop)]
+#[derive(Clone, Copy)]
 pub struct DistHit {
     pub d: f32,
     pub mat: u32,
 }
 
 // A point of the surface or none.
-#[derive(Drop)]
+#[derive(Clone, Copy)]
 pub enum Projected {
     On(Vec3),
     None,

@@ -19,7 +19,7 @@ use vector::Vec3;
 
 // How many surfels, clusters, members, links and probes a file says it has, and the limit of
 // bounces.
-#[derive(Drop)]
+#[derive(Clone, Copy)]
 pub struct Counts {
     pub surfels: u32,
     pub clusters: u32,
@@ -31,7 +31,7 @@ pub struct Counts {
 
 // What stands before the probes: the box of the grid, the side of a cell, and the radius of a
 // reading.
-#[derive(Drop)]
+#[derive(Clone, Copy)]
 pub struct ProbeBox {
     pub lo: Vec3,
     pub hi: Vec3,
@@ -41,7 +41,7 @@ pub struct ProbeBox {
 
 // A column of a file, in words: `width` words of each of `count` entries, those of the first from
 // `from` on, those of the next `step` later.
-#[derive(Drop)]
+#[derive(Clone, Copy)]
 pub struct Column {
     pub from: usize,
     pub step: usize,

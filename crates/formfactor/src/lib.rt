@@ -14,7 +14,7 @@ pub use entries::build;
 
 // A row that was made: how many links it has, the sum of their weights before they were scaled, itself
 // scaled and at most 1, and how many distances were evaluated.
-#[derive(Drop)]
+#[derive(Clone, Copy)]
 pub struct RowMade {
     pub links: usize,
     pub sum: f32,
@@ -22,7 +22,7 @@ pub struct RowMade {
 }
 
 // Rows with links: how many, and their sums summed.
-#[derive(Drop)]
+#[derive(Clone, Copy)]
 pub struct Interior {
     pub rows: usize,
     pub sum: f32,
@@ -30,7 +30,7 @@ pub struct Interior {
 
 // Rows that were built: how many links they have, what counts of them for the mean, and how many
 // distances were evaluated.
-#[derive(Drop)]
+#[derive(Clone, Copy)]
 pub struct RowsMade {
     pub links: usize,
     pub interior: Interior,
@@ -39,7 +39,7 @@ pub struct RowsMade {
 
 // What was built: how many links, the mean of the row sums over the rows with links, and how many
 // distances were evaluated.
-#[derive(Drop)]
+#[derive(Clone, Copy)]
 pub struct Built {
     pub links: usize,
     pub mean_row_sum: f32,
@@ -48,7 +48,7 @@ pub struct Built {
 
 // What the entry answers: refused with a number; refused with 8, as the links of this row do not fit;
 // or done.
-#[derive(Drop)]
+#[derive(Clone, Copy)]
 pub enum BuildAnswer {
     Refused(u32),
     Full(usize),

@@ -19,7 +19,7 @@ pub use entries::{grid_build, near};
 pub use layout::{cell_of, cells, dims_of};
 
 // How many cells a grid has on each axis.
-#[derive(Drop)]
+#[derive(Clone, Copy)]
 pub struct Dims {
     pub x: usize,
     pub y: usize,
@@ -27,7 +27,7 @@ pub struct Dims {
 }
 
 // A cell, by its place on each axis.
-#[derive(Drop)]
+#[derive(Clone, Copy)]
 pub struct Cell {
     pub x: usize,
     pub y: usize,
@@ -37,7 +37,7 @@ pub struct Cell {
 // The cells near a point: `layers` layers of `rows` rows of `wide` cells that follow one another.
 // The first row of the first layer begins at the cell `first`, each row `row_step` cells after the
 // one before it, each layer `layer_step`.
-#[derive(Drop)]
+#[derive(Clone, Copy)]
 pub struct Block {
     pub first: usize,
     pub wide: usize,
@@ -49,13 +49,13 @@ pub struct Block {
 
 // What the entries answer: refused with a number, or done, with the dimensions of the grid or with
 // how many numbers the list has.
-#[derive(Drop)]
+#[derive(Clone, Copy)]
 pub enum GridAnswer {
     Refused(u32),
     Done(Dims),
 }
 
-#[derive(Drop)]
+#[derive(Clone, Copy)]
 pub enum NearAnswer {
     Refused(u32),
     Done(usize),

@@ -9,7 +9,7 @@ use crate::Block;
 use accept::wide;
 
 // Places of items, from the first up to the second.
-#[derive(Drop)]
+#[derive(Clone, Copy)]
 struct Row {
     from: usize,
     to: usize,

@@ -9,7 +9,7 @@ pub use cutting::read;
 pub use lending::lent_by;
 
 // How many places of each column are lent, in the order of the parameters of `room_read`.
-#[derive(Drop)]
+#[derive(Clone, Copy)]
 pub struct Lent {
     pub p: usize,
     pub normals: usize,

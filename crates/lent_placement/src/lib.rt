@@ -9,7 +9,7 @@ pub use reading::{lent_by, told_by};
 use vector::Vec3;
 
 // How many primitives, planes and objects there are.
-#[derive(Drop)]
+#[derive(Clone, Copy)]
 pub struct Counts {
     pub prims: usize,
     pub planes: usize,
@@ -17,7 +17,7 @@ pub struct Counts {
 }
 
 // The same, how many materials there are, how many surfels are wanted, and the bounds.
-#[derive(Drop)]
+#[derive(Clone, Copy)]
 pub struct Told {
     pub prims: usize,
     pub planes: usize,
@@ -29,7 +29,7 @@ pub struct Told {
 }
 
 // How many places of each table are lent.
-#[derive(Drop)]
+#[derive(Clone, Copy)]
 pub struct Lent {
     pub kinds: usize,
     pub lengths: usize,

@@ -10,7 +10,7 @@ use records::Light;
 use reset::ResetAnswer;
 
 // What a reset of four records answered, and the records as it left them.
-#[derive(Drop)]
+#[derive(Clone, Copy)]
 pub struct Four {
     pub answer: ResetAnswer,
     pub records: [Light; 4],

@@ -9,7 +9,7 @@ mod made;
 pub use made::{bounces, counts, probe, refused};
 
 // A line of text: the first `count` bytes, its newline among them. The bytes after them are zero.
-#[derive(Drop)]
+#[derive(Clone, Copy)]
 pub struct Line {
     pub bytes: [u8; 64],
     pub count: usize,

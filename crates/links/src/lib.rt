@@ -12,7 +12,7 @@ pub use scaling::{calibrate, target_of};
 use vector::Vec3;
 
 // A surfel as a row sees it: the point and the normal.
-#[derive(Drop)]
+#[derive(Clone, Copy)]
 pub struct Receiver {
     pub p: Vec3,
     pub n: Vec3,
@@ -20,7 +20,7 @@ pub struct Receiver {
 
 // Whether a surfel and a cluster face each other closely enough; if so how far and in which direction
 // the cluster is, and their form factor.
-#[derive(Drop)]
+#[derive(Clone, Copy)]
 pub struct Facing {
     pub faces: bool,
     pub r: f32,
@@ -30,7 +30,7 @@ pub struct Facing {
 
 // Whether a surfel and a cluster are linked, the link's weight, and how many distances were
 // evaluated.
-#[derive(Drop)]
+#[derive(Clone, Copy)]
 pub struct Pair {
     pub linked: bool,
     pub weight: f32,

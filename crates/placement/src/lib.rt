@@ -14,7 +14,7 @@ mod storing;
 pub use entries::generate;
 
 // What the entry answers: refused with a number, or done, with how many surfels were placed.
-#[derive(Drop)]
+#[derive(Clone, Copy)]
 pub enum GenerateAnswer {
     Refused(u32),
     Done(usize),

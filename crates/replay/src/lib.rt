@@ -16,7 +16,7 @@ pub use result::{refused, short, vec};
 pub use table::{part, put_floats, put_numbers, shown, shown_floats};
 
 // Up to 16 words, the operands or the result of a case: the first `count` of them.
-#[derive(Drop)]
+#[derive(Clone, Copy)]
 pub struct Words {
     pub words: [u32; 16],
     pub count: usize,

@@ -11,7 +11,7 @@ use stored::Stored as Scene;
 use stored_rows::Stored;
 
 // The scene, and what else is stored.
-#[derive(Drop)]
+#[derive(Clone, Copy)]
 struct Held {
     scene: Scene,
     stored: Stored,

@@ -4,7 +4,7 @@ use stored::Stored as Scene;
 use stored_placement::Stored;
 
 // What a question leaves stored, and the words of its answer.
-#[derive(Drop)]
+#[derive(Clone, Copy)]
 pub struct Asked {
     pub stored: Stored,
     pub words: Words,

@@ -12,7 +12,7 @@ use stored::Stored as Scene;
 use stored_placement::Stored;
 
 // The scene, and what else is stored.
-#[derive(Drop)]
+#[derive(Clone, Copy)]
 struct Held {
     scene: Scene,
     stored: Stored,

@@ -5,14 +5,14 @@ use lent_file::Lent;
 use replay::{Words, part};
 
 // What a reading leaves, and the words of its answer.
-#[derive(Drop)]
+#[derive(Clone, Copy)]
 pub struct Left {
     pub columns: Columns,
     pub words: Words,
 }
 
 // The same without the columns of the surfels.
-#[derive(Drop)]
+#[derive(Clone, Copy)]
 struct Later {
     clusters: Clusters,
     rows: Rows,
@@ -20,7 +20,7 @@ struct Later {
 }
 
 // The same without those of the clusters.
-#[derive(Drop)]
+#[derive(Clone, Copy)]
 struct Last {
     rows: Rows,
     words: Words,

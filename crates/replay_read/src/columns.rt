@@ -2,7 +2,7 @@
 use float::of_bits;
 
 // Of the surfels.
-#[derive(Drop)]
+#[derive(Clone, Copy)]
 pub struct Surfels {
     pub p: [f32; 64],
     pub normals: [f32; 64],
@@ -12,7 +12,7 @@ pub struct Surfels {
 }
 
 // Of the clusters and their members.
-#[derive(Drop)]
+#[derive(Clone, Copy)]
 pub struct Clusters {
     pub area: [f32; 64],
     pub first: [u32; 64],
@@ -21,7 +21,7 @@ pub struct Clusters {
 }
 
 // Of the rows and the probes.
-#[derive(Drop)]
+#[derive(Clone, Copy)]
 pub struct Rows {
     pub starts: [u32; 64],
     pub link_cluster: [u32; 64],
@@ -30,7 +30,7 @@ pub struct Rows {
     pub probe_normals: [f32; 64],
 }
 
-#[derive(Drop)]
+#[derive(Clone, Copy)]
 pub struct Columns {
     pub surfels: Surfels,
     pub clusters: Clusters,

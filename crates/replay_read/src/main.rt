@@ -14,7 +14,7 @@ use replay::{Words, named};
 
 // What the columns hold, and how many places of each a reading is lent, in the order of its
 // parameters.
-#[derive(Drop)]
+#[derive(Clone, Copy)]
 struct Held {
     columns: Columns,
     lent: [u32; 16],

@@ -12,7 +12,7 @@ mod writing;
 pub use entries::{MAX_REPORT, room_report};
 
 // What a report answers: refused with a number, or done, with how many bytes the text has.
-#[derive(Drop)]
+#[derive(Clone, Copy)]
 pub enum ReportAnswer {
     Refused(u32),
     Done(usize),
@@ -20,7 +20,7 @@ pub enum ReportAnswer {
 
 // What the solve of a file's room left: the bounces, the last change, and irr, three floats a
 // surfel.
-#[derive(Drop)]
+#[derive(Clone, Copy)]
 struct Solved {
     bounces: usize,
     change: f32,
@@ -28,7 +28,7 @@ struct Solved {
 }
 
 // The readings at the probes of a file: 1 where light is seen and 0 where it is not, and the light.
-#[derive(Drop)]
+#[derive(Clone, Copy)]
 struct Readings {
     seen: [u32; 16384],
     light: [f32; 16384],

@@ -8,7 +8,7 @@ mod resetting;
 pub use resetting::{refusal, reset};
 
 // What a reset answers: refused with a number, or done.
-#[derive(Drop)]
+#[derive(Clone, Copy)]
 pub enum ResetAnswer {
     Refused(u32),
     Done,

@@ -12,14 +12,14 @@ use file::{Counts, ProbeBox};
 
 // What stands in a file beside its columns: the counts and the limit of bounces, and the box of the
 // grid, the side of a cell and the radius of a reading.
-#[derive(Drop)]
+#[derive(Clone, Copy)]
 pub struct Head {
     pub counts: Counts,
     pub bounds: ProbeBox,
 }
 
 // What reading a file answers: refused with a number, or done.
-#[derive(Drop)]
+#[derive(Clone, Copy)]
 pub enum ReadAnswer {
     Refused(u32),
     Done(Head),

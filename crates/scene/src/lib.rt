@@ -15,7 +15,7 @@ use field::DistHit;
 use vector::Vec3;
 
 // Where a ray met the scene: how far along, the point, the normal and the material.
-#[derive(Drop)]
+#[derive(Clone, Copy)]
 pub struct Hit {
     pub t: f32,
     pub p: Vec3,
@@ -24,21 +24,21 @@ pub struct Hit {
 }
 
 // A hit or none.
-#[derive(Drop)]
+#[derive(Clone, Copy)]
 pub enum Found {
     At(Hit),
     None,
 }
 
 // What a ray met, and how many distances were evaluated.
-#[derive(Drop)]
+#[derive(Clone, Copy)]
 pub struct Traced {
     pub found: Found,
     pub evals: u32,
 }
 
 // A ray's cursor: where the next sample is, and how many were made.
-#[derive(Drop)]
+#[derive(Clone, Copy)]
 pub struct March {
     pub t: f32,
     pub steps: u32,
@@ -46,7 +46,7 @@ pub struct March {
 
 // A shadow's cursor: the visibility so far, where the next sample is, the last sample, and how many
 // were made.
-#[derive(Drop)]
+#[derive(Clone, Copy)]
 pub struct ShadowMarch {
     pub res: f32,
     pub t: f32,
@@ -55,59 +55,59 @@ pub struct ShadowMarch {
 }
 
 // Where a ray came closest: y back from the sample, at the distance d.
-#[derive(Drop)]
+#[derive(Clone, Copy)]
 pub struct Approach {
     pub y: f32,
     pub d: f32,
 }
 
 // How much of a light is seen, from 0 to 1, and how many distances were evaluated.
-#[derive(Drop)]
+#[derive(Clone, Copy)]
 pub struct Shadow {
     pub visibility: f32,
     pub evals: u32,
 }
 
 // The part of the hemisphere that sees no surface, and how many distances were evaluated.
-#[derive(Drop)]
+#[derive(Clone, Copy)]
 pub struct Closure {
     pub sky: f32,
     pub evals: u32,
 }
 
 // How many rays met nothing, and how many distances were evaluated.
-#[derive(Drop)]
+#[derive(Clone, Copy)]
 pub struct Openings {
     pub missed: u32,
     pub evals: u32,
 }
 
 // What the entries answer: refused with a number, or done.
-#[derive(Drop)]
+#[derive(Clone, Copy)]
 pub enum DistAnswer {
     Refused(u32),
     Done(DistHit),
 }
 
-#[derive(Drop)]
+#[derive(Clone, Copy)]
 pub enum NormalAnswer {
     Refused(u32),
     Done(Vec3),
 }
 
-#[derive(Drop)]
+#[derive(Clone, Copy)]
 pub enum TraceAnswer {
     Refused(u32),
     Done(Traced),
 }
 
-#[derive(Drop)]
+#[derive(Clone, Copy)]
 pub enum ShadowAnswer {
     Refused(u32),
     Done(Shadow),
 }
 
-#[derive(Drop)]
+#[derive(Clone, Copy)]
 pub enum ClosureAnswer {
     Refused(u32),
     Done(Closure),

@@ -15,7 +15,7 @@ ghost use Rattle.sdf.specs.Beyond.{far};
 use vector::Vec3;
 
 // A shape and its lengths.
-#[derive(Drop)]
+#[derive(Clone, Copy)]
 pub enum Shape {
     // Centre and radius.
     Sphere { c: Vec3, r: f32 },

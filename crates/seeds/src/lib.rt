@@ -16,7 +16,7 @@ pub use separation::spacing_of;
 use vector::Vec3;
 
 // A box, its diagonal, and the least distance between two surfels in it.
-#[derive(Drop)]
+#[derive(Clone, Copy)]
 pub struct Spacing {
     pub lo: Vec3,
     pub hi: Vec3,
@@ -25,7 +25,7 @@ pub struct Spacing {
 }
 
 // The colour of a surface, and how much of it is metal.
-#[derive(Drop)]
+#[derive(Clone, Copy)]
 pub struct Material {
     pub albedo: Vec3,
     pub metallic: f32,
@@ -33,7 +33,7 @@ pub struct Material {
 
 // A piece of the surface: the point, the normal, the part of light it returns, its area, and its
 // light: direct, irradiance after at least one bounce, and all that leaves it.
-#[derive(Drop)]
+#[derive(Clone, Copy)]
 pub struct Surfel {
     pub p: Vec3,
     pub n: Vec3,

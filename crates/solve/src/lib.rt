@@ -17,14 +17,14 @@ pub use running::settled;
 
 // What a solve made: how many bounces, and the greatest absolute step of any channel of rad in the
 // last of them, 0 if it made none.
-#[derive(Drop)]
+#[derive(Clone, Copy)]
 pub struct SolveStats {
     pub bounces: usize,
     pub change: f32,
 }
 
 // What a solve answers: refused with a number, or done.
-#[derive(Drop)]
+#[derive(Clone, Copy)]
 pub enum SolveAnswer {
     Refused(u32),
     Done(SolveStats),

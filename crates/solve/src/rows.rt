@@ -12,7 +12,7 @@ use accept::{lesser, wide};
 use vector::Vec3;
 
 // What two rows bring.
-#[derive(Drop)]
+#[derive(Clone, Copy)]
 pub struct TwoRows {
     pub first: Vec3,
     pub second: Vec3,

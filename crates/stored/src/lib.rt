@@ -6,7 +6,7 @@ use float::of_bits;
 use replay::named;
 
 // Three counts, and places for 16 primitives, 8 planes and 16 objects.
-#[derive(Drop)]
+#[derive(Clone, Copy)]
 pub struct Stored {
     pub prims: usize,
     pub planes: usize,

@@ -11,7 +11,7 @@ pub use show::{items, light, list, seen, starts};
 use vector::Vec3;
 
 // How many places of each table are lent.
-#[derive(Drop)]
+#[derive(Clone, Copy)]
 pub struct Lent {
     pub p: usize,
     pub normals: usize,
@@ -26,7 +26,7 @@ pub struct Lent {
 }
 
 // A box and the size of its cells.
-#[derive(Drop)]
+#[derive(Clone, Copy)]
 pub struct Bounds {
     pub lo: Vec3,
     pub hi: Vec3,
@@ -34,7 +34,7 @@ pub struct Bounds {
 }
 
 // A box, places for 32 surfels, 520 starts, 32 items, a list of 64, 8 probes and their readings.
-#[derive(Drop)]
+#[derive(Clone, Copy)]
 pub struct Stored {
     pub bounds: Bounds,
     pub p: [f32; 96],

@@ -1,7 +1,7 @@
 // Columns of surfels: their points, their normals, their albedo and their areas.
 use float::of_bits;
 
-#[derive(Drop)]
+#[derive(Clone, Copy)]
 pub struct Columns {
     pub p: [f32; 384],
     pub n: [f32; 384],

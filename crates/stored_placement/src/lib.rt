@@ -14,7 +14,7 @@ pub use scratch::Scratch;
 // Places for 16 materials, for 128 surfels and for scratch of 512 cells. A call is lent so many places
 // of kinds, lengths, plane_parts, object_parts; materials; p, n, albedo, area; direct, irr, rad; head,
 // next.
-#[derive(Drop)]
+#[derive(Clone, Copy)]
 pub struct Stored {
     pub materials: [f32; 64],
     pub columns: Columns,

@@ -1,7 +1,7 @@
 // The light of surfels: direct, arriving and leaving.
 use float::of_bits;
 
-#[derive(Drop)]
+#[derive(Clone, Copy)]
 pub struct Light {
     pub direct: [f32; 384],
     pub irr: [f32; 384],

@@ -1,5 +1,5 @@
 // The scratch of placement: a place for each cell, and one for each surfel.
-#[derive(Drop)]
+#[derive(Clone, Copy)]
 pub struct Scratch {
     pub head: [u32; 512],
     pub next: [u32; 128],

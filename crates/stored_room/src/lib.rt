@@ -13,7 +13,7 @@ use replay::named;
 pub use show::{direct, irr, rad, scratch};
 
 // How many places of each table a solve is lent.
-#[derive(Drop)]
+#[derive(Clone, Copy)]
 pub struct Lent {
     pub albedo: usize,
     pub area: usize,
@@ -32,7 +32,7 @@ pub struct Lent {
 
 // Places for 12 surfels, 8 clusters, 32 members, 16 starts and 64 links; `light` is what a reset is
 // given.
-#[derive(Drop)]
+#[derive(Clone, Copy)]
 pub struct Stored {
     pub albedo: [f32; 36],
     pub area: [f32; 12],

@@ -3,7 +3,7 @@
 use float::of_bits;
 use replay::{Words, named, put_floats};
 
-#[derive(Drop)]
+#[derive(Clone, Copy)]
 pub struct Clusters {
     pub p: [f32; 96],
     pub n: [f32; 96],

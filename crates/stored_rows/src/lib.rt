@@ -18,7 +18,7 @@ pub use surfels::Surfels;
 // clusters is lent so many places of p, normals, area; cluster p, n, area, radius; first, count,
 // member, order, spare; a call for rows of p, normals; cluster p, n, area, radius; starts,
 // link_cluster, link_weight, link, weight.
-#[derive(Drop)]
+#[derive(Clone, Copy)]
 pub struct Stored {
     pub surfels: Surfels,
     pub clusters: Clusters,

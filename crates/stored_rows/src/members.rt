@@ -1,6 +1,6 @@
 // What else a call for clusters writes: the ranges of their members, the members, and its scratch,
 // `order` and `spare`.
-#[derive(Drop)]
+#[derive(Clone, Copy)]
 pub struct Members {
     pub first: [u32; 32],
     pub count: [u32; 32],

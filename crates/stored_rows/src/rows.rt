@@ -1,7 +1,7 @@
 // Rows: what a call for rows writes. `link` and `weight` are its scratch.
 use float::of_bits;
 
-#[derive(Drop)]
+#[derive(Clone, Copy)]
 pub struct Rows {
     pub starts: [u32; 36],
     pub link_cluster: [u32; 160],

@@ -1,7 +1,7 @@
 // Surfels: their points, their normals and their areas.
 use replay::{Words, named, put_floats};
 
-#[derive(Drop)]
+#[derive(Clone, Copy)]
 pub struct Surfels {
     pub p: [f32; 96],
     pub normals: [f32; 96],

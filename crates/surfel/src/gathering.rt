@@ -15,7 +15,7 @@ use grid::{Block, block_near};
 use vector::Vec3;
 
 // Places of items, from the first up to the second.
-#[derive(Drop)]
+#[derive(Clone, Copy)]
 struct Row {
     from: usize,
     to: usize,

@@ -16,7 +16,7 @@ use vector::Vec3;
 
 // A surfel as a reading weighs it: the point, the normal, and the irradiance that reached it after
 // at least one bounce.
-#[derive(Drop)]
+#[derive(Clone, Copy)]
 pub struct Surfel {
     pub p: Vec3,
     pub n: Vec3,
@@ -24,7 +24,7 @@ pub struct Surfel {
 }
 
 // Where a reading is taken: the point, the normal there, and the square of the radius.
-#[derive(Drop)]
+#[derive(Clone, Copy)]
 pub struct Probe {
     pub p: Vec3,
     pub n: Vec3,
@@ -32,7 +32,7 @@ pub struct Probe {
 }
 
 // What was weighed so far: the sum of irradiance times weight, and the sum of the weights.
-#[derive(Drop)]
+#[derive(Clone, Copy)]
 pub struct Weighed {
     pub light: Vec3,
     pub weight: f32,
@@ -40,20 +40,20 @@ pub struct Weighed {
 
 // The light at a point, or that it is unseen: the weights of the surfels near it do not exceed
 // 0.000001, as a NaN does not.
-#[derive(Drop)]
+#[derive(Clone, Copy)]
 pub enum Reading {
     Seen(Vec3),
     Unseen,
 }
 
 // What the entries answer: refused with a number, or done.
-#[derive(Drop)]
+#[derive(Clone, Copy)]
 pub enum GatherAnswer {
     Refused(u32),
     Done(Reading),
 }
 
-#[derive(Drop)]
+#[derive(Clone, Copy)]
 pub enum GatherAllAnswer {
     Refused(u32),
     Done,

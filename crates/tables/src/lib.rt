@@ -14,7 +14,7 @@ pub use reading::{part_at, shape_at};
 
 // A plane or an object: its base primitive, the first that is subtracted from it, how many are, and
 // its material.
-#[derive(Drop)]
+#[derive(Clone, Copy)]
 pub struct Part {
     pub base: u32,
     pub first: u32,

@@ -13,14 +13,14 @@ pub use number::{decimal, hex};
 pub use reading::word;
 
 // What reading a word finds.
-#[derive(Drop)]
+#[derive(Clone, Copy)]
 pub enum Read {
     Value(u32),
     Absent,
 }
 
 // A number's decimal digits: the first `count` bytes. The bytes after them are zero.
-#[derive(Drop)]
+#[derive(Clone, Copy)]
 pub struct Numeral {
     pub digits: [u8; 10],
     pub count: usize,

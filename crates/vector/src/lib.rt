@@ -12,7 +12,7 @@ pub use tangent::frame;
 
 // Three floats: a point, a direction, or light in three channels. For C it is x, y, z in this order.
 #[repr(C)]
-#[derive(Drop)]
+#[derive(Clone, Copy)]
 pub struct Vec3 {
     pub x: f32,
     pub y: f32,
@@ -20,7 +20,7 @@ pub struct Vec3 {
 }
 
 // Two directions that stand square to a normal of length 1 and to each other.
-#[derive(Drop)]
+#[derive(Clone, Copy)]
 pub struct Tangents {
     pub t: Vec3,
     pub b: Vec3,
