@@ -1,5 +1,5 @@
 -- Which floats are NaN, and which patterns are a NaN's. Assumes nothing.
-use Rattle.std.proofs.Common.{◌≡◌, ℕ, ◌-◌, ◌%◌, ◌^◌, ◌<◌, ◌≤◌, Bool, true, false, not, T, sym, ap, ◌∙◌, subst, le-ltb, lt-ltb}
+use Rattle.std.proofs.Common.{◌≡◌, ℕ, ◌%◌, ◌^◌, ◌<◌, ◌≤◌, Bool, true, false, not, T, sym, ap, ◌∙◌, subst, le-ltb, lt-ltb}
 use lib.Ieee.{Float, nan, binary32, ne, is_nan, nan_bits, of_bits, to_bits}
 use lib.Ieee.Bits.{nan_bits_is, nan_bits_above}
 use lib.Ieee.Compare.{differs_from_itself}
