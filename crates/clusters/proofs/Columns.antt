@@ -1,5 +1,4 @@
 -- The columns of clusters from the groups that were stored. Assumes nothing.
-use denote.Slice.{shr_slice_at}
 use mathlib.Core.List.{List, [], ◌∷◌, ◌++◌}
 use mathlib.Core.Path.{◌≡◌, sym, ap, ◌∙◌}
 use Prim.Native.Nat.{ℕ, ◌+◌, ◌-◌, ◌≤◌, ◌<◌}
@@ -72,7 +71,7 @@ module _ (s : Surfels) (v : Voxels) where
         let e : j ≡ b + (j - b) = omega arith in
         let g = group_stored gs l.first l.count l.member room k h in
         let q : number_at m j ≡ number_at (group_at gs k) (j - b) =
-        ap (number_at m) e ∙ sym (shr_slice_at b (b + length (group_at gs k)) (j - b) m 0 (omega arith)) ∙ ap (λ (x : List ℕ). get_or x (j - b) 0) g in
+        ap (number_at m) e ∙ sym (slice_at b (b + length (group_at gs k)) (j - b) m 0 (omega arith)) ∙ ap (λ (x : List ℕ). get_or x (j - b) 0) g in
         rw q (members_below k (j - b) h (omega arith))
 
     -- what `aggregate` asks of the lists

@@ -1,5 +1,4 @@
 -- Links strictly ascend in each row, and what `build` leaves passes the tests that a solve makes of its rows. Assumes nothing.
-use denote.Slice.{shr_slice_at}
 use mathlib.Core.Bool.{Bool, true, false}
 use mathlib.Core.List.{List, [], ◌∷◌, ◌++◌, append-nil}
 use mathlib.Core.Logic.{◌⊎◌, inl, inr}
@@ -123,7 +122,7 @@ module _ (t : Setting) (c : DoneCall t) where
 
   link_at : (i j : ℕ) → i < t.n → j < length (row_at t i).cluster → number_at C (start_of t i + j) ≡ number_at (row_at t i).cluster j
   link_at i j h k =
-      sym (shr_slice_at (start_of t i) (start_of t (i + 1)) j C 0 (omega (arith, start_more t i)))
+      sym (slice_at (start_of t i) (start_of t (i + 1)) j C 0 (omega (arith, start_more t i)))
       ∙ ap (λ (l : List ℕ). number_at l j) (row_slice i h)
 
   rises : (i : ℕ) → i < t.n → ascends (number_at C) (number_at S i) (number_at S (i + 1)) ≡ true

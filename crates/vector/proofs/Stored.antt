@@ -1,5 +1,4 @@
 -- Elements stored one after the other in a list, the rows of them that a loop stores, and what is kept. Assumes nothing.
-use denote.Slice.{shr_slice_at}
 use mathlib.Core.List.{List, [], ◌∷◌, ◌++◌, append_assoc, append-nil}
 use mathlib.Core.Path.{◌≡◌, refl, sym, ap, ◌∙◌}
 use mathlib.Core.Logic.{◌⊎◌, inl, inr}
@@ -94,8 +93,8 @@ slice_stored f j at l items z h p q r =
     rw (a, slice_more f (f + j) items z (omega arith) h, sets_append, n, r, q, p)
 
 -- element j of a slice
-pub shr_slice_at : {A : Type 0} (f t j : ℕ) (l : List A) (z : A) → f + j < t → get_or (slice f t l) j z ≡ get_or l (f + j) z
-shr_slice_at f t j l z h = get_or-drop f (take t l) j z ∙ get_or-take t l (f + j) z h
+pub slice_at : {A : Type 0} (f t j : ℕ) (l : List A) (z : A) → f + j < t → get_or (slice f t l) j z ≡ get_or l (f + j) z
+slice_at f t j l z h = get_or-drop f (take t l) j z ∙ get_or-take t l (f + j) z h
 
 -- one row more
 pub rows_more : {A : Type 0} (f : ℕ → List A) (n : ℕ) → rows f (n + 1) ≡ rows f n ++ f n

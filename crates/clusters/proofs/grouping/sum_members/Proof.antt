@@ -1,5 +1,4 @@
 -- `clusters::grouping::sum_members` meets its contract. The loop has the sums of the first j members. Assumes nothing.
-use denote.Slice.{shr_slice_at}
 use mathlib.Core.Path.{◌≡◌, sym, ap, ◌∙◌}
 use Prim.Native.Nat.{◌+◌, ◌-◌, ◌≤◌}
 use native.Mathlib.Omega.{arith}
@@ -48,7 +47,7 @@ loop-again c =
     let s = lp.before.before.before.before.before.before.before in
     let a = s.args in (
       search rules,
-      fold_more _ _ _ _ lp.loop.invariant.1 (c.before.wide.ensures ∙ sym (shr_slice_at a.from a.to lp.loop.j a.list.now 0 (omega (arith, i, lp, s.requires.1.1.0)))) c.add-member.ensures,
+      fold_more _ _ _ _ lp.loop.invariant.1 (c.before.wide.ensures ∙ sym (slice_at a.from a.to lp.loop.j a.list.now 0 (omega (arith, i, lp, s.requires.1.1.0)))) c.add-member.ensures,
     )
 
 returns : tie.Need-returns invariant-loop decreases-loop
