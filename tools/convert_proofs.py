@@ -67,6 +67,7 @@ def blocks(text):
 class Ctx:
     def __init__(s,plan):
         s.places={p[0]:p for p in plan['places']}
+        s.arms={p[0]:a for p,a in zip(plan['places'],plan['arms'])}
         s.plan=plan
     def before(s,pl): return s.places[pl][1] if pl in s.places else None
 
@@ -84,6 +85,17 @@ def clause(names,parts):
         if parts[i].isdigit() and int(parts[i])<len(names): return [names[int(parts[i])]]+parts[i+1:]
         break
     return parts
+
+def top(inner):
+    d=0;parts=[];last=0
+    for i,ch in enumerate(inner):
+        if ch in '([{': d+=1
+        if ch in ')]}':
+            d-=1
+            if d<0: return [inner]
+        if ch==',' and d==0: parts.append(inner[last:i].strip()); last=i+1
+    parts.append(inner[last:].strip())
+    return [x for x in parts if x]
 
 def wrap(names,body):
     names=[n for n in names if n]
@@ -106,6 +118,10 @@ def wrap(names,body):
             for c in cuts: parts.append(inner[last:c].strip()); last=c+1
             parts.append(inner[last:].strip())
             parts=[x for x in parts if x]
+            while len(parts)<len(names) and parts and parts[-1].startswith('(') and parts[-1].endswith(')'):
+                more=top(parts[-1][1:-1])
+                if len(more)<2: break
+                parts=parts[:-1]+more
             if len(parts)==len(names):
                 return m.group(1)+'record { '+' '.join('%s = %s;'%(n,x) for n,x in zip(names,parts))+' }'
     acc=['h'+'.1'*i+('.0' if i<len(names)-1 else '') for i in range(len(names))]
@@ -142,8 +158,18 @@ def rewrite(body,var,place,ctx,log):
         if p is None: log.append('no place '+str(pl)); return m.group(0)
         old,new=p[2]
         head=parts[0]
-        if old and norm(head)==norm(old):
+        arm=ctx.arms.get(pl)
+        hit=None
+        if arm and old and norm(head)==norm(old):
+            for fld,st,path in arm[2]:
+                if norm(st)==norm(re.sub(r'\d+$','',head)) or norm(st)==norm(head):
+                    if path and parts[1:1+len(path)]==path: hit=[arm[0],fld]+parts[1+len(path):]
+        if hit:
+            parts=hit
+        elif old and norm(head)==norm(old):
             parts[0]=new
+            if len(parts)>1 and new and (new.startswith('if-') or new.endswith('-test')):
+                parts[1]={'taken':'true','left':'false'}.get(parts[1],parts[1])
         elif pl=='Start' or head in('args','requires','ranges','well_formed','pre'):
             pass
         else:

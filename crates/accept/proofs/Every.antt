@@ -1,5 +1,5 @@
 -- Several tests as one: one test more at a time, and what each says where all held. Assumes nothing.
-use mathlib.Core.Bool.{Bool, true, false, ◌&&◌, and-eq-true_iff, and_true, and_assoc}
+use mathlib.Core.Bool.{Bool, true, false, ◌&&◌, and-eq-true_iff, and-true, and_assoc}
 use mathlib.Core.List.{List, [], ◌∷◌}
 use mathlib.Core.Logic.{⊎_elim}
 use mathlib.Core.Path.{◌≡◌, refl, sym, ◌∙◌}
@@ -68,7 +68,7 @@ every_same f g (suc n) h = rw (every_same f g n (λ i k. h i (omega arith)), h n
 -- a + m tests are a tests and m more
 every_split : (f : ℕ → Bool) (a m : ℕ) → every f (a + m) ≡ (every f a && every (λ j. f (a + j)) m)
 unfolding every
-every_split f a zero = rw (add-zero a) (sym (and_true (every f a)))
+every_split f a zero = rw (add-zero a) (sym (and-true (every f a)))
 every_split f a (suc m) = rw (add-suc a m, every_split f a m) (and_assoc (every f a) (every (λ j. f (a + j)) m) (f (a + m)))
 
 -- n times w tests are w tests for each of n
