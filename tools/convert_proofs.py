@@ -101,6 +101,9 @@ def wrap(names,body):
     names=[n for n in names if n]
     if len(names)<2: return body
     b=body.strip()
+    wh=''
+    mw=re.search(r"\n  where\n.*$",b,re.S)
+    if mw: wh=mw.group(0); b=b[:mw.start()]
     lets=''
     while b.startswith('let '):
         d=0;cut=None;depth=0
@@ -115,7 +118,7 @@ def wrap(names,body):
         if cut is None: break
         lets+=b[:cut]+'\n    '; b=b[cut:].strip()
     r=wrap1(names,b)
-    return lets+r
+    return lets+r+wh
 
 def wrap1(names,b):
     if re.match(r"(omega|search|grind|cc|simp)\b",b):
