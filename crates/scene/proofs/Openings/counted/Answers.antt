@@ -1,6 +1,5 @@
 -- `scene::Openings::counted` meets its contract. The ray's answer, a hit or none, is known in each branch. Assumes nothing.
 use Rattle.scene.specs.Opening.{counted, missed_by}
-use borrow.Author.Rules.{rules}
 use native.Mathlib.Nat.{add-zero}
 use Rattle.scene.proofs.Openings.counted.Goals as goal
 

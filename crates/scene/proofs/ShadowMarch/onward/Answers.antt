@@ -1,6 +1,5 @@
 -- `scene::ShadowMarch::onward` meets its contract. Its t moves on by the clamped sample. Assumes nothing.
 use Rattle.scene.specs.Shading.{onward}
-use borrow.Author.Rules.{rules}
 use Rattle.scene.proofs.ShadowMarch.onward.Goals as goal
 
 pub returns : goal.returns

@@ -1,5 +1,4 @@
 -- `scene::marching::hit` meets its contract. It takes the normal at p. Assumes nothing.
-use borrow.Author.Rules.{rules}
 use Rattle.scene.proofs.marching.hit.Goals as goal
 
 pub returns : goal.returns

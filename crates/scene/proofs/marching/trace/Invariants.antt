@@ -1,10 +1,8 @@
 -- `scene::marching::trace` meets its contract. The loop has made its samples, and what is left of the definition starts at the cursor. Assumes nothing.
-use Prim.Native.Nat.{◌-◌, ◌+◌, ◌≤◌}
-use Rattle.scene.proofs.Turns.{trace_hit, trace_past, trace_on, trace_end}
+use Prim.Native.Nat.{◌-◌, ◌≤◌}
 use Rattle.scene.specs.Marching.{trace, trace_from}
 use Rattle.tables.specs.Tables.{scene_of}
-use mathlib.Core.Path.{◌≡◌, refl, ap}
-use native.Mathlib.Omega.{arith}
+use mathlib.Core.Path.{◌≡◌}
 use Rattle.scene.proofs.marching.trace.Given as goal
 
 abbrev pub invariant-loop-m : goal.invariant-loop-m

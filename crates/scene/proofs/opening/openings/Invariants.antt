@@ -1,12 +1,8 @@
 -- `scene::opening::openings` meets its contract. The loop has counted the first k rays. Assumes nothing.
-use Prim.Native.Nat.{◌-◌, ◌*◌, ◌≤◌}
-use Rattle.scene.proofs.Evals.{openings_few, ray_evals}
-use Rattle.scene.specs.Opening.{openings, counted}
+use Prim.Native.Nat.{◌-◌, ◌≤◌}
+use Rattle.scene.specs.Opening.{openings}
 use Rattle.tables.specs.Tables.{scene_of}
-use Rattle.vector.proofs.Sums.{fold_none, fold_more}
-use borrow.Author.Rules.{rules}
-use mathlib.Core.Path.{◌≡◌, refl}
-use native.Mathlib.Omega.{arith}
+use mathlib.Core.Path.{◌≡◌}
 use Rattle.scene.proofs.opening.openings.Given as goal
 
 abbrev pub invariant-loop-k : goal.invariant-loop-k

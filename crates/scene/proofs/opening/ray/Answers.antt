@@ -1,6 +1,5 @@
 -- `scene::opening::ray` meets its contract. It joins the contracts of `trace`, the direction and the frame. Assumes nothing.
 use Rattle.scene.proofs.Rays.{ray_of}
-use borrow.Author.Rules.{rules}
 use Rattle.scene.proofs.opening.ray.Goals as goal
 
 pub returns : goal.returns

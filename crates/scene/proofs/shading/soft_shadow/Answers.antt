@@ -1,9 +1,7 @@
 -- `scene::shading::soft_shadow` meets its contract. The loop has made its samples, and what is left of the definition starts at the cursor. Assumes nothing.
-use Prim.Native.Nat.{◌-◌, ◌+◌, ◌≤◌}
+use Prim.Native.Nat.{◌-◌, ◌+◌}
 use Rattle.scene.proofs.Turns.{shadow_touch, shadow_occluded, shadow_on, shadow_end, shadow_past}
-use Rattle.scene.specs.Shading.{soft_shadow, shadow_from, visible}
-use Rattle.tables.specs.Tables.{scene_of}
-use mathlib.Core.Logic.{⊎_elim}
+use Rattle.scene.specs.Shading.{soft_shadow, visible}
 use mathlib.Core.Path.{◌≡◌, refl, ap}
 use native.Mathlib.Omega.{arith}
 use Rattle.scene.proofs.shading.soft_shadow.Goals as goal
@@ -41,6 +39,6 @@ unfolding visible
 returns c =
     rw (c.clamp.ensures, c.loop-m.invariant.1)
     (elim c.loop-m-test.branch [
-      goal.then-loop-m-test+else-m-tmax w ↦ shadow_past _ _ _ _ _ _ _ _ _ _ w.if-m-tmax.false
+      | goal.then-loop-m-test+else-m-tmax w ↦ shadow_past _ _ _ _ _ _ _ _ _ _ w.if-m-tmax.false
       | goal.else-loop-m-test w ↦ let e : 96 - c.loop-m.m.steps ≡ 0 = omega arith in rw e (shadow_end _ _ _ _ _ _ _ _ _)
     ])

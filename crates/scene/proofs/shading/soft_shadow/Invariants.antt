@@ -1,11 +1,8 @@
 -- `scene::shading::soft_shadow` meets its contract. The loop has made its samples, and what is left of the definition starts at the cursor. Assumes nothing.
-use Prim.Native.Nat.{◌-◌, ◌+◌, ◌≤◌}
-use Rattle.scene.proofs.Turns.{shadow_touch, shadow_occluded, shadow_on, shadow_end, shadow_past}
-use Rattle.scene.specs.Shading.{soft_shadow, shadow_from, visible}
+use Prim.Native.Nat.{◌-◌, ◌≤◌}
+use Rattle.scene.specs.Shading.{soft_shadow, shadow_from}
 use Rattle.tables.specs.Tables.{scene_of}
-use mathlib.Core.Logic.{⊎_elim}
-use mathlib.Core.Path.{◌≡◌, refl, ap}
-use native.Mathlib.Omega.{arith}
+use mathlib.Core.Path.{◌≡◌}
 use Rattle.scene.proofs.shading.soft_shadow.Given as goal
 
 abbrev pub invariant-loop-m : goal.invariant-loop-m
