@@ -101,7 +101,28 @@ def wrap(names,body):
     names=[n for n in names if n]
     if len(names)<2: return body
     b=body.strip()
+    wh=''
+    mw=re.search(r"\n  where\n.*$",b,re.S)
+    if mw: wh=mw.group(0); b=b[:mw.start()]
     lets=''
+    while b.startswith('let '):
+        d=0;cut=None;depth=0
+        for m in re.finditer(r"\blet\b|\bin\b|[(\[{]|[)\]}]",b):
+            s=m.group(0)
+            if s in '([{': depth+=1
+            elif s in ')]}': depth-=1
+            elif s=='let': d+=1
+            elif s=='in':
+                d-=1
+                if d==0 and depth==0: cut=m.end(); break
+        if cut is None: break
+        lets+=b[:cut]+'\n    '; b=b[cut:].strip()
+    r=wrap1(names,b)
+    return lets+r+wh
+
+def wrap1(names,b):
+    if re.match(r"(omega|search|grind|cc|simp)\b",b):
+        return 'record { '+' '.join('%s = %s;'%(n,b) for n in names)+' }'
     m=re.match(r"((?:let .*? in\s+)*)\((.*)\)$",b,re.S)
     if m:
         # top-level tuple?
