@@ -149,7 +149,7 @@ def wrap1(names,b):
     return 'let h = %s in record { %s }'%(b,' '.join('%s = %s;'%(n,x) for n,x in zip(names,acc)))
 
 def rewrite(body,var,place,ctx,log):
-    alias={var:place}
+    alias={var:(place,0)}
     # let aliases
     pat=re.compile(r"let (%s) = ([\w'-]+)((?:\.before)*) in\s*"%ID)
     pos=0
@@ -157,28 +157,30 @@ def rewrite(body,var,place,ctx,log):
         m=pat.search(body,pos)
         if not m: break
         if m.group(2) in alias:
-            pl=alias[m.group(2)]
+            pl,dep=alias[m.group(2)]
             for _ in range(m.group(3).count('.before')):
                 pl=ctx.before(pl) if pl else None
+                dep+=1
             if pl is None: log.append('path past start: '+m.group(0)); pos=m.end(); continue
-            alias[m.group(1)]=pl
+            alias[m.group(1)]=(pl,dep)
             body=body[:m.start()]+body[m.end():]
             pos=m.start()
         else: pos=m.end()
     names_=sorted(alias,key=len,reverse=True)
     tok=re.compile(r"(?<![\w.'-])(%s)((?:\.[\w'₀-₉-]+|\.\d+)*)(?![\w'-])"%'|'.join(map(re.escape,names_)))
     def f(m):
-        pl=alias[m.group(1)]
+        pl,dep=alias[m.group(1)]
         parts=[x for x in m.group(2).split('.') if x]
         while parts and parts[0]=='before':
             nxt=ctx.before(pl) if pl else None
             if nxt is None: log.append('before past start '+m.group(0)); break
-            pl=nxt; parts=parts[1:]
-        if not parts: return 'c'
+            pl=nxt; parts=parts[1:]; dep+=1
+        if not parts: return var+'.before'*dep
         p=ctx.places.get(pl)
         if p is None: log.append('no place '+str(pl)); return m.group(0)
         old,new=p[2]
         head=parts[0]
+        if head.endswith('_lem'): head=parts[0]=head[:-4]
         arm=ctx.arms.get(pl)
         hit=None
         if arm and old and norm(head)==norm(old):
@@ -204,12 +206,12 @@ def rewrite(body,var,place,ctx,log):
         if old and norm(head)==norm(old) and q[3] and len(parts)>1 and parts[1]=='ensures':
             parts=parts[:2]+clause(TAB.get(q[3],([],[]))[0],parts[2:])
         if parts[0]=='requires': parts=parts[:1]+clause(ctx.own[1],parts[1:])
-        return 'c.'+'.'.join(parts)
+        return var+'.'+'.'.join(parts)
     body=tok.sub(f,body)
     # dedupe c in tactic lists
     def g(m):
         items=[x.strip() for x in m.group(2).split(',')]
-        items=[x for k,x in enumerate(items) if x!='c']
+        items=[x for k,x in enumerate(items) if not re.fullmatch(re.escape(var)+r'(\.before)*',x)]
         if len(items)==1: return m.group(1)+' '+items[0]
         return m.group(1)+' ('+', '.join(items)+')'
     body=re.sub(r"\b(omega|search|grind) \(((?:[^()]|\([^()]*\))*)\)",g,body)
@@ -257,6 +259,16 @@ def convert(fdir,plan,text,fpath):
         for o,n in needs:
             rest2.append(byname.get(norm(o).replace('overflow_',''),'(λ c. tt)'))
         rest=rest2
+    newplace=dict(zip([p[0] for p in plan['places']],plan['places_by_name']))
+    fixed=[]
+    for b in others:
+        ms=list(re.finditer(r"\((\w+) : tie\.([\w'-]+)((?: (?:invariant|decreases)[\w-]*)*)\)",b))
+        for m in ms:
+            if m.group(2) not in newplace: log.append('place '+m.group(2)+'?'); continue
+            b=b.replace(m.group(0),'(%s : goal.%s)'%(m.group(1),newplace[m.group(2)]))
+            b=rewrite(b,m.group(1),m.group(2),ctx,log)
+        fixed.append(b)
+    others=fixed
     ans=[]
     for (o,n),(oplace,_),a in zip(needs,plan['asked_at'],rest):
         if a.startswith('('):
