@@ -1,19 +1,23 @@
 -- `lines::made::refused` meets its contract. The pieces fit, and so the line is all of them. Assumes nothing.
 use mathlib.Core.List.{[], ◌∷◌}
 use native.Mathlib.Omega.{arith}
-use borrow.Author.Rules.{rules}
 use Rattle.text.specs.Digits.{decimal_digits}
 use Rattle.lines.specs.Lines.{refused_word, newline, refused_line}
 use Rattle.lines.proofs.Joined.{line-counts, joined}
 use Rattle.lines.proofs.Widths.{refused_width}
-use Rattle.lines.proofs.made.refused.Statement.{statement}
-use Rattle.lines.proofs.made.refused.Tie as tie
+use Rattle.lines.proofs.made.refused.Goals as goal
 
-returns : tie.Need-returns
+pub returns : goal.returns
 unfolding refused_line
-returns c = let s = c.before.before.before.before.before.before.args in
+returns c =
+    let s = c.args in
     joined [] (refused_word ∷ decimal_digits s.number ∷ newline ∷ []) (search) (omega (arith, refused_width s.number))
 
-pub refused-spec : {M : Type 1} → statement M
-refused-spec =
-    tie.close (tie.spec (λ c κs. tt) (λ c. search rules) (λ c κs. omega (arith, line-counts)) (λ c κs. omega (arith, line-counts)) (λ c. search rules) (λ c κs. omega (arith, line-counts)) returns)
+pub with-requires : goal.with-requires
+with-requires c = omega (arith, line-counts)
+
+pub with_decimal-requires : goal.with_decimal-requires
+with_decimal-requires c = omega (arith, line-counts)
+
+pub with-requires-2 : goal.with-requires-2
+with-requires-2 c = omega (arith, line-counts)
