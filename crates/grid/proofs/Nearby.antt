@@ -20,7 +20,7 @@ use Rattle.grid.specs.declared.Dims.{Dims}
 use Rattle.grid.specs.Lent.{Grid, cells_of}
 use Rattle.grid.specs.Visiting.{first_near, count_near, listed, visited}
 use Rattle.grid.specs.Rows.{block_near, block_listed, RowsHeld, Small}
-use Rattle.grid.specs.Cells.{dims_of, cells, cell_of}
+use Rattle.grid.specs.Cells.{dims_of, cell_of}
 use Rattle.grid.specs.Checks.{list_fits, tests, refusal}
 use Rattle.grid.proofs.Numbered.{dims_bounded}
 use Rattle.grid.proofs.Around.{number, number_along, near_end, inside, first_row, row_end}
