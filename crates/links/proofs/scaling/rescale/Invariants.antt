@@ -1,13 +1,9 @@
 -- `links::scaling::rescale` meets its contract. The loop has scaled the first j weights. Assumes nothing.
-use mathlib.Core.Path.{◌≡◌, refl, ap, ◌∙◌}
-use Prim.Native.Nat.{ℕ, ◌-◌, ◌≤◌, min}
-use native.Mathlib.Omega.{arith}
-use lib.ListN.{length, take, length-set}
+use mathlib.Core.Path.{◌≡◌}
+use Prim.Native.Nat.{◌-◌, ◌≤◌}
+use lib.ListN.{length, take}
 use lib.Seq.{sets}
-use Rattle.vector.proofs.Stored.{take_reached}
 use Rattle.links.specs.Scaling.{scaled_by}
-use Rattle.links.proofs.Scaled.{scaled_none, scaled_more}
-use borrow.Author.Rules.{rules}
 use Rattle.links.proofs.scaling.rescale.Given as goal
 
 abbrev pub invariant-loop-j : goal.invariant-loop-j
