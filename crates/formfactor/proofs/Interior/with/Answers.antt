@@ -1,7 +1,6 @@
 -- `formfactor::Interior::with` meets its contract. A row without links is left out. Assumes nothing.
 use Rattle.formfactor.specs.Needs.{with_links}
 use borrow.Author.Tests.{ne_eqb}
-use borrow.Author.Rules.{rules}
 use Rattle.formfactor.proofs.Interior.with.Goals as goal
 
 pub returns-then-row-eq0 : goal.returns-then-row-eq0

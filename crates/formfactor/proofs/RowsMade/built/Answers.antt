@@ -1,6 +1,5 @@
 -- `formfactor::RowsMade::built` meets its contract. The mean is `mean`'s. Assumes nothing.
 use Rattle.formfactor.specs.Needs.{built_of}
-use borrow.Author.Rules.{rules}
 use Rattle.formfactor.proofs.RowsMade.built.Goals as goal
 
 pub returns : goal.returns

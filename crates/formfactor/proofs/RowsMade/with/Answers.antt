@@ -1,6 +1,5 @@
 -- `formfactor::RowsMade::with` meets its contract. Each part is added to. Assumes nothing.
 use Rattle.formfactor.specs.Needs.{with_row}
-use borrow.Author.Rules.{rules}
 use Rattle.formfactor.proofs.RowsMade.with.Goals as goal
 
 pub returns : goal.returns

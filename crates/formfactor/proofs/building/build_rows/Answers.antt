@@ -1,13 +1,11 @@
 -- `formfactor::building::build_rows` meets its contract. The loop has built i rows, all of which fitted. Assumes nothing.
 use mathlib.Core.Path.{◌≡◌, refl, ◌∙◌}
-use Prim.Native.Nat.{◌-◌, ◌≤◌}
 use native.Mathlib.Omega.{arith}
-use lib.ListN.{length, drop, length-set}
+use lib.ListN.{length, length-set}
 use Rattle.tables.specs.Tables.{scene_of}
 use Rattle.formfactor.specs.Lent.{emitters_of, setting_of}
 use Rattle.formfactor.specs.Building.{row_at}
-use Rattle.formfactor.proofs.Rowwise.{SoFar, capacity_most, told_few, links_front, weights_front, links_inside, none_yet, one_more_row, stopped, all_built}
-use borrow.Author.Rules.{rules}
+use Rattle.formfactor.proofs.Rowwise.{capacity_most, told_few, links_front, weights_front, links_inside, none_yet, one_more_row, stopped, all_built}
 use Rattle.formfactor.proofs.building.build_rows.Goals as goal
 
 pub loop-i-init : goal.loop-i-init
@@ -33,12 +31,12 @@ bounds-starts-i c =
 pub receiver_at-requires : goal.receiver_at-requires
 receiver_at-requires c =
     let a = c.args in
-    record { i_in_bounds = omega (arith, c.loop-i-test.true, c.requires.surfels_held.places); i_in_bounds_2 = omega (arith, c.loop-i-test.true, c.requires.surfels_held.directions); }
+    record { i_in_bounds = omega (arith, c.loop-i-test.true, c.requires.surfels_held.places); i_in_bounds_2 = omega (arith, c.loop-i-test.true, c.requires.surfels_held.directions) }
 
 pub make_row-row-requires : goal.make_row-row-requires
 make_row-row-requires c =
     let a = c.args in
-    record { emitters_held = c.requires.emitters_held; scratch_held = record { links = omega (arith, c.requires.scratch_held.links, c.loop-i.invariant.7); weights = omega (arith, c.requires.scratch_held.weights, c.loop-i.invariant.8) }; }
+    record { emitters_held = c.requires.emitters_held; scratch_held = record { links = omega (arith, c.requires.scratch_held.links, c.loop-i.invariant.7); weights = omega (arith, c.requires.scratch_held.weights, c.loop-i.invariant.8) } }
 
 pub overflow_sub-room : goal.overflow_sub-room
 overflow_sub-room c =
@@ -62,7 +60,7 @@ returns-then-room-made c =
     let q = rw v at m.ensures.row_standing.told in
     let x = rw v at m.ensures.row_standing.clusters in
     let y = rw v at m.ensures.row_standing.weights in
-    record { link_weight_after = stopped t room.result a.starts.now a.link_cluster.now a.link_weight.now room.ensures c.loop-i.i c.loop-i.invariant.1 c.loop-i-test.true (omega (arith, c.loop-i-test.true, c.requires.surfels_held.started)) q (omega (arith, inside, c.if-room-made.true)); kept_from = links_front t c.loop-i.i c.loop-i.link x ∙ c.loop-i.invariant.2; kept_from_2 = weights_front t c.loop-i.i c.loop-i.weight y ∙ c.loop-i.invariant.3; }
+    record { link_weight_after = stopped t room.result a.starts.now a.link_cluster.now a.link_weight.now room.ensures c.loop-i.i c.loop-i.invariant.1 c.loop-i-test.true (omega (arith, c.loop-i-test.true, c.requires.surfels_held.started)) q (omega (arith, inside, c.if-room-made.true)); kept_from = links_front t c.loop-i.i c.loop-i.link x ∙ c.loop-i.invariant.2; kept_from_2 = weights_front t c.loop-i.i c.loop-i.weight y ∙ c.loop-i.invariant.3 }
 
 pub put_links-requires : goal.put_links-requires
 put_links-requires c =
@@ -73,7 +71,7 @@ put_links-requires c =
     let inside = links_inside t room.result a.starts.now a.link_cluster.now a.link_weight.now c.loop-i.i c.loop-i.invariant.1 in
     let m = c.make_row-row in
     let f = c.if-room-made.false in
-    record { k_in_bounds = omega (arith, m.ensures.links_le_nc, m.auto.link, c.loop-i.invariant.7, c.requires.scratch_held.links); k_in_bounds_2 = omega (arith, m.ensures.links_le_nc, m.auto.weight, c.loop-i.invariant.8, c.requires.scratch_held.weights); k_in_bounds_3 = omega (arith, inside, f, most.0, c.loop-i.invariant.5); k_in_bounds_4 = omega (arith, inside, f, most.1, c.loop-i.invariant.6); }
+    record { k_in_bounds = omega (arith, m.ensures.links_le_nc, m.auto.link, c.loop-i.invariant.7, c.requires.scratch_held.links); k_in_bounds_2 = omega (arith, m.ensures.links_le_nc, m.auto.weight, c.loop-i.invariant.8, c.requires.scratch_held.weights); k_in_bounds_3 = omega (arith, inside, f, most.0, c.loop-i.invariant.5); k_in_bounds_4 = omega (arith, inside, f, most.1, c.loop-i.invariant.6) }
 
 pub with-made-requires : goal.with-made-requires
 with-made-requires c =
@@ -143,4 +141,4 @@ returns c =
     let most = capacity_most (length a.link_cluster.now) (length a.link_weight.now) room.ensures in
     let inside = links_inside t room.result a.starts.now a.link_cluster.now a.link_weight.now c.loop-i.i c.loop-i.invariant.1 in
     let n : c.loop-i.i ≡ a.n = omega (arith, c.loop-i-test.false, c.loop-i.invariant.0) in
-    record { link_weight_after = rw c.built.ensures (all_built t room.result a.starts.now a.link_cluster.now a.link_weight.now room.ensures (rw n at c.loop-i.invariant.1) c.requires.surfels_held.started); kept_from = c.loop-i.invariant.2; kept_from_2 = c.loop-i.invariant.3; }
+    record { link_weight_after = rw c.built.ensures (all_built t room.result a.starts.now a.link_cluster.now a.link_weight.now room.ensures (rw n at c.loop-i.invariant.1) c.requires.surfels_held.started); kept_from = c.loop-i.invariant.2; kept_from_2 = c.loop-i.invariant.3 }

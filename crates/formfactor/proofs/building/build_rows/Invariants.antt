@@ -1,13 +1,10 @@
 -- `formfactor::building::build_rows` meets its contract. The loop has built i rows, all of which fitted. Assumes nothing.
-use mathlib.Core.Path.{◌≡◌, refl, ◌∙◌}
+use mathlib.Core.Path.{◌≡◌}
 use Prim.Native.Nat.{◌-◌, ◌≤◌}
-use native.Mathlib.Omega.{arith}
-use lib.ListN.{length, drop, length-set}
+use lib.ListN.{length, drop}
 use Rattle.tables.specs.Tables.{scene_of}
 use Rattle.formfactor.specs.Lent.{emitters_of, setting_of}
-use Rattle.formfactor.specs.Building.{row_at}
-use Rattle.formfactor.proofs.Rowwise.{SoFar, capacity_most, told_few, links_front, weights_front, links_inside, none_yet, one_more_row, stopped, all_built}
-use borrow.Author.Rules.{rules}
+use Rattle.formfactor.proofs.Rowwise.{SoFar}
 use Rattle.formfactor.proofs.building.build_rows.Given as goal
 
 abbrev pub invariant-loop-i : goal.invariant-loop-i

@@ -1,10 +1,8 @@
 -- `formfactor::building::put_links` meets its contract. The loop has copied the first j links. Assumes nothing.
 use mathlib.Core.Path.{◌≡◌, refl}
-use Prim.Native.Nat.{◌-◌, ◌≤◌}
 use native.Mathlib.Omega.{arith}
 use lib.Ieee.{nan}
-use lib.ListN.{length, take, length-set}
-use lib.Seq.{sets}
+use lib.ListN.{length-set}
 use Rattle.vector.proofs.Stored.{take_stored}
 use borrow.Author.Rules.{rules}
 use Rattle.formfactor.proofs.building.put_links.Goals as goal
@@ -21,4 +19,4 @@ loop-j-preserved c =
 pub returns : goal.returns
 returns c =
     let e : c.loop-j.j ≡ c.args.k = omega arith in
-    record { link_cluster_after = rw e at c.loop-j.invariant.1; link_weight_after = rw e at c.loop-j.invariant.2; }
+    record { link_cluster_after = rw e at c.loop-j.invariant.1; link_weight_after = rw e at c.loop-j.invariant.2 }

@@ -1,12 +1,8 @@
 -- `formfactor::building::put_links` meets its contract. The loop has copied the first j links. Assumes nothing.
-use mathlib.Core.Path.{◌≡◌, refl}
+use mathlib.Core.Path.{◌≡◌}
 use Prim.Native.Nat.{◌-◌, ◌≤◌}
-use native.Mathlib.Omega.{arith}
-use lib.Ieee.{nan}
-use lib.ListN.{length, take, length-set}
+use lib.ListN.{length, take}
 use lib.Seq.{sets}
-use Rattle.vector.proofs.Stored.{take_stored}
-use borrow.Author.Rules.{rules}
 use Rattle.formfactor.proofs.building.put_links.Given as goal
 
 abbrev pub invariant-loop-j : goal.invariant-loop-j

@@ -1,5 +1,4 @@
 -- `formfactor::building::receiver_at` meets its contract. Two vectors are read. Assumes nothing.
-use borrow.Author.Rules.{rules}
 use Rattle.formfactor.proofs.building.receiver_at.Goals as goal
 
 pub returns : goal.returns

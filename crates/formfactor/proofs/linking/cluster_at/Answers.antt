@@ -1,5 +1,4 @@
 -- `formfactor::linking::cluster_at` meets its contract. Two vectors and two floats are read. Assumes nothing.
-use borrow.Author.Rules.{rules}
 use Rattle.formfactor.proofs.linking.cluster_at.Goals as goal
 
 pub returns : goal.returns

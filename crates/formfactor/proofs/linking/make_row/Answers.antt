@@ -6,7 +6,6 @@ use Rattle.tables.specs.Tables.{scene_of}
 use Rattle.formfactor.specs.Lent.{cluster_at, emitters_of}
 use Rattle.formfactor.specs.Linking.{openness, row_of}
 use Rattle.formfactor.proofs.Linked.{row_told}
-use borrow.Author.Rules.{rules}
 use Rattle.formfactor.proofs.linking.make_row.Goals as goal
 
 pub overflow_add-result : goal.overflow_add-result
@@ -26,4 +25,4 @@ returns c =
     let g = c.target_of.ensures in
     let few : h.result.evals ≤ 2112 = rw h.ensures (closure_evals _ _ _ _) in
     let t = row_told s a.diag a.a (cluster_at e) a.nc a.weight.now c.requires.scratch_held.weights r.ensures.links_standing.told r.ensures.links_standing.weights h.ensures (rw g at k.ensures.value) (rw g at k.ensures.weight_after) in
-    record { row_standing = record { told = rw (c.min.ensures, c.wide.ensures) t.0; clusters = r.ensures.links_standing.clusters; weights = t.1 }; links_le_nc = r.ensures.links_le_nc; evals_bound = omega (arith, few, c.wide.ensures, r.ensures.evals_bound); }
+    record { row_standing = record { told = rw (c.min.ensures, c.wide.ensures) t.0; clusters = r.ensures.links_standing.clusters; weights = t.1 }; links_le_nc = r.ensures.links_le_nc; evals_bound = omega (arith, few, c.wide.ensures, r.ensures.evals_bound) }

@@ -1,15 +1,10 @@
 -- `formfactor::linking::raw_links` meets its contract. The loop has made the links to the first c clusters. Assumes nothing.
 use mathlib.Core.Path.{◌≡◌, refl, ap, ◌∙◌}
-use Prim.Native.Nat.{◌-◌, ◌≤◌}
 use native.Mathlib.Omega.{arith}
-use lib.ListN.{length}
-use lib.Seq.{sets}
 use Rattle.tables.specs.Tables.{scene_of}
 use Rattle.formfactor.specs.Lent.{cluster_at, emitters_of}
 use Rattle.links.specs.Pairs.{pair_of}
 use Rattle.links.proofs.Faced.{pair_evals}
-use Rattle.formfactor.specs.Linking.{raw_links}
-use Rattle.formfactor.specs.Needs.{links_made}
 use Rattle.formfactor.proofs.Linked.{told_few, told_none, told_more}
 use Rattle.formfactor.proofs.linking.raw_links.Goals as goal
 
@@ -23,7 +18,7 @@ loop-c-init c =
 
 pub cluster_at-requires : goal.cluster_at-requires
 cluster_at-requires c =
-    record { emitters_held = c.requires.emitters_held; c_lt_nc = c.loop-c-test.true; }
+    record { emitters_held = c.requires.emitters_held; c_lt_nc = c.loop-c-test.true }
 
 pub put_pair-made-requires : goal.put_pair-made-requires
 put_pair-made-requires c =
@@ -32,7 +27,7 @@ put_pair-made-requires c =
     let e = emitters_of a.nc a.cluster_p.now a.cluster_n.now a.cluster_area.now a.cluster_radius.now in
     let t = told_few s a.diag a.a (cluster_at e) c.loop-c.c c.loop-c.invariant.1 in
     let h = c.loop-c-test.true in
-    record { fact = record { few = omega (arith, h, c.requires.emitters_held.few); before = t.0; evals_few = t.1; links = omega (arith, h, c.requires.scratch_held.links, c.loop-c.invariant.4); weights = omega (arith, h, c.requires.scratch_held.weights, c.loop-c.invariant.5) }; evals_bound = rw c.pair_of-pair.ensures (pair_evals _ _ _ _); }
+    record { fact = record { few = omega (arith, h, c.requires.emitters_held.few); before = t.0; evals_few = t.1; links = omega (arith, h, c.requires.scratch_held.links, c.loop-c.invariant.4); weights = omega (arith, h, c.requires.scratch_held.weights, c.loop-c.invariant.5) }; evals_bound = rw c.pair_of-pair.ensures (pair_evals _ _ _ _) }
 
 pub overflow_add-c : goal.overflow_add-c
 overflow_add-c c =
@@ -59,4 +54,4 @@ returns c =
     let e = emitters_of a.nc a.cluster_p.now a.cluster_n.now a.cluster_area.now a.cluster_radius.now in
     let n : c.loop-c.c ≡ a.nc = omega (arith, c.loop-c-test.false, c.loop-c.invariant.0) in
     let t = told_few s a.diag a.a (cluster_at e) c.loop-c.c c.loop-c.invariant.1 in
-    record { links_standing = record { told = rw n at c.loop-c.invariant.1; clusters = rw n at c.loop-c.invariant.2; weights = rw n at c.loop-c.invariant.3 }; links_le_nc = rw n at t.0; evals_bound = rw n at t.1; }
+    record { links_standing = record { told = rw n at c.loop-c.invariant.1; clusters = rw n at c.loop-c.invariant.2; weights = rw n at c.loop-c.invariant.3 }; links_le_nc = rw n at t.0; evals_bound = rw n at t.1 }

@@ -1,16 +1,12 @@
 -- `formfactor::linking::raw_links` meets its contract. The loop has made the links to the first c clusters. Assumes nothing.
-use mathlib.Core.Path.{◌≡◌, refl, ap, ◌∙◌}
+use mathlib.Core.Path.{◌≡◌}
 use Prim.Native.Nat.{◌-◌, ◌≤◌}
-use native.Mathlib.Omega.{arith}
 use lib.ListN.{length}
 use lib.Seq.{sets}
 use Rattle.tables.specs.Tables.{scene_of}
 use Rattle.formfactor.specs.Lent.{cluster_at, emitters_of}
-use Rattle.links.specs.Pairs.{pair_of}
-use Rattle.links.proofs.Faced.{pair_evals}
 use Rattle.formfactor.specs.Linking.{raw_links}
 use Rattle.formfactor.specs.Needs.{links_made}
-use Rattle.formfactor.proofs.Linked.{told_few, told_none, told_more}
 use Rattle.formfactor.proofs.linking.raw_links.Given as goal
 
 abbrev pub invariant-loop-c : goal.invariant-loop-c
