@@ -1,7 +1,7 @@
 /*
  * Bounced light in a room: the C interface of libinterflect.a, for C99 and C++.
  *
- * `rt staticlib interflect` at the repository's root writes target/staticlib/libinterflect.a, for
+ * `rt lib` in crates/interflect writes crates/interflect/out/libinterflect.a, for
  * x86-64 Linux; of other libraries it needs memcpy and memset alone. The functions beneath are its seventeen
  * entries, and three float functions.
  *

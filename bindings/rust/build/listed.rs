@@ -7,8 +7,9 @@ pub struct Listed<'a> {
     pub needs: Vec<&'a str>,
 }
 
-/// A crate and all beneath it, by lines of `NAME: what it depends on  # comment`, leaves first: in the
-/// order of the list, so that the crate itself is the last.
+/// A crate and all beneath it, by lines of `NAME: what it depends on  # comment`, where a static
+/// library has the word staticlib after its name, leaves first: in the order of the list, so that the crate
+/// itself is the last.
 pub fn beneath<'a>(name: &'a str, text: &'a str) -> Vec<Listed<'a>> {
     let mut wanted = BTreeSet::from([name]);
     let mut crates = Vec::new();
@@ -17,13 +18,11 @@ pub fn beneath<'a>(name: &'a str, text: &'a str) -> Vec<Listed<'a>> {
         let Some((name, needs)) = line.split_once(':') else {
             continue;
         };
+        let name = name.split_whitespace().next().unwrap_or_default();
         let needs: Vec<&str> = needs.split_whitespace().collect();
-        if wanted.contains(name.trim()) {
+        if wanted.contains(name) {
             wanted.extend(&needs);
-            crates.push(Listed {
-                name: name.trim(),
-                needs,
-            });
+            crates.push(Listed { name, needs });
         }
     }
     crates.reverse();

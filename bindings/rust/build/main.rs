@@ -1,7 +1,7 @@
 //! Finds or builds libinterflect.a and links it.
 //!
 //! Where the environment variable SOKITAHE_LIB_DIR names a folder, the library is taken from there.
-//! Otherwise it is the one in target/staticlib of the repository two folders above this one, which
+//! Otherwise it is the one in crates/interflect/out of the repository two folders above this one, which
 //! is built with `rt` where it is missing or older than a file of a crate beneath it.
 mod listed;
 mod proving;
@@ -19,6 +19,8 @@ use std::time::SystemTime;
 const LIBRARY: &str = "libinterflect.a";
 /// The crate whose exports the library has.
 const EXPORTS: &str = "interflect";
+/// What a crate is made of.
+const PARTS: [&str; 3] = ["src", "specs", "proofs"];
 const LIB_DIR: &str = "SOKITAHE_LIB_DIR";
 
 fn main() {
@@ -72,10 +74,19 @@ fn built_by_rt() -> Result<PathBuf, String> {
     let text = fs::read_to_string(&list)
         .map_err(|error| format!("{} can't be read: {error}", list.display()))?;
     let crates = listed::beneath(EXPORTS, &text);
-    let folder = root.join("target/staticlib");
+    let exports = root.join("crates").join(EXPORTS);
+    let folder = exports.join("out");
     let library = folder.join(LIBRARY);
-    let folders = crates.iter().map(|one| root.join("crates").join(one.name));
-    let files: Vec<PathBuf> = folders.chain([list]).collect();
+    let parts = |one: &listed::Listed| {
+        let folder = root.join("crates").join(one.name);
+        PARTS.map(|part| folder.join(part))
+    };
+    let files: Vec<PathBuf> = crates
+        .iter()
+        .flat_map(parts)
+        .filter(|path| path.exists())
+        .chain([list])
+        .collect();
     for path in files.iter().chain([&library]) {
         println!("cargo:rerun-if-changed={}", path.display());
     }
@@ -87,7 +98,7 @@ fn built_by_rt() -> Result<PathBuf, String> {
     let work = PathBuf::from(env::var_os("OUT_DIR").unwrap_or_default());
     let beneath = crates.split_last().map_or(&[][..], |(_, beneath)| beneath);
     proving::prove(&rt, &root, beneath, &work)?;
-    rt.run(&root, &["staticlib", EXPORTS], &work.join("rt.log"))?;
+    rt.run(&exports, &["lib"], &work.join("rt.log"))?;
     date(&library, begun).map_err(|error| {
         format!(
             "rt wrote no {} that can be used ({error}): see whether this rt is the repository's",

@@ -1,17 +1,13 @@
 //! The crates beneath the library proved, several at a time.
 //!
-//! `rt check NAME` proves a crate, once all that it depends on is proved. `rt check` of several crates
-//! waits for the slowest of a level before it begins the next; here each begins as soon as it can. The
-//! runs of rt do not share their logs: each worker has a folder whose crates, libraries and stamps are
-//! the repository's, and whose logs are its own.
+//! `rt check` in a crate's folder proves it, and what it depends on where that has changed. Here each
+//! crate begins as soon as all that it depends on is proved, one for each processor.
 use crate::listed::Listed;
 use crate::rt::Rt;
 use crate::sources;
 use std::collections::{BTreeMap, BTreeSet};
 use std::env;
 use std::fs;
-use std::io;
-use std::os::unix::fs::symlink;
 use std::path::Path;
 use std::sync::{Condvar, Mutex, MutexGuard};
 use std::thread;
@@ -30,12 +26,10 @@ pub fn prove(rt: &Rt, root: &Path, crates: &[Listed], work: &Path) -> Result<(),
         for number in 0..jobs() {
             let queue = &queue;
             scope.spawn(move || {
-                let folder = work.join(format!("worker{number}"));
-                let laid_out = lay_out(root, &folder)
-                    .map_err(|error| format!("{} can't be made: {error}", folder.display()));
+                let log = work.join(format!("rt{number}.log"));
                 while let Some(name) = queue.next() {
-                    let check = || rt.run(&folder, &["check", name], &folder.join("rt.log"));
-                    queue.ended(name, laid_out.clone().and_then(|()| check()));
+                    let folder = root.join("crates").join(name);
+                    queue.ended(name, rt.run(&folder, &["check"], &log));
                 }
             });
         }
@@ -58,20 +52,6 @@ fn free_memory() -> Option<usize> {
         .lines()
         .find_map(|line| line.strip_prefix("MemAvailable:"))?;
     line.split_whitespace().next()?.parse().ok()
-}
-
-/// Makes a folder in which rt finds the repository's crates and what is proved of them.
-fn lay_out(root: &Path, folder: &Path) -> io::Result<()> {
-    if folder.exists() {
-        fs::remove_dir_all(folder)?;
-    }
-    fs::create_dir_all(folder.join("target"))?;
-    for kept in ["target/rlib", "target/stamp"] {
-        fs::create_dir_all(root.join(kept))?;
-    }
-    ["crates.txt", "crates", "target/rlib", "target/stamp"]
-        .iter()
-        .try_for_each(|path| symlink(root.join(path), folder.join(path)))
 }
 
 /// The crates that wait to be proved.

@@ -18,7 +18,7 @@ use Rattle.clusters.specs.Keys.{keys}
 use Rattle.clusters.specs.Lent.{Surfels, Columns}
 use Rattle.clusters.specs.Needs.{Resolved, Ranged, Below, Roomy, Sorted, clustered_of, first_left, count_left, member_left, cluster_at, columns_of}
 use Rattle.clusters.specs.Sorting.{key_at, in_order}
-use Rattle.vector.proofs.Stored.{at-slice}
+use Rattle.vector.proofs.Stored.{slice_at}
 use Rattle.clusters.proofs.Gathered.{below_small, group_keyed}
 use Rattle.clusters.proofs.Numbered.{key_below}
 use Rattle.clusters.proofs.Stored.{joined, first_at, count_at, group_stored, members_at_lem, group_ends}
@@ -48,7 +48,7 @@ module _ (s : Surfels) (v : Voxels) where
   unfolding groups
   members_below k q h l =
       let w = group_keyed s v (keys v.res) k h in
-      rw w.there (in_bucket (key_at v s.p s.normals) w.of-key s.n q (rw w.there at l)).below
+      rw w.there (in_bucket (key_at v s.p s.normals) w.of_key s.n q (rw w.there at l)).below
 
   module _ (l : Columns) (roomy : Roomy s.n l) {first count members : List ℕ} {c : Clustered} (a : c ≡ clustered_of (groups s v))
       (f : first ≡ first_left (groups s v) l.first) (o : count ≡ count_left (groups s v) l.count) (t : members ≡ member_left (groups s v) l.member) where

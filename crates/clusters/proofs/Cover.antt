@@ -73,12 +73,12 @@ module _ (s : Surfels) (v : Voxels) where
     unfolding groups
     group_is = group_keyed s v (keys v.res) k h
 
-    same_group : group_at (groups s v) k ≡ keyed s v group_is.of-key
+    same_group : group_at (groups s v) k ≡ keyed s v group_is.of_key
     unfolding groups
     same_group = group_is.there
 
-    pub member : (q : ℕ) → q < length (group_at (groups s v) k) → InBucket key group_is.of-key s.n q (number_at (group_at (groups s v) k) q)
-    member q l = rw same_group (in_bucket key group_is.of-key s.n q (rw same_group at l))
+    pub member : (q : ℕ) → q < length (group_at (groups s v) k) → InBucket key group_is.of_key s.n q (number_at (group_at (groups s v) k) q)
+    member q l = rw same_group (in_bucket key group_is.of_key s.n q (rw same_group at l))
 
     -- the members of a group ascend
     pub group_ascends : (p q : ℕ) → p < q → q < length (group_at (groups s v) k) → number_at (group_at (groups s v) k) p < number_at (group_at (groups s v) k) q
@@ -87,7 +87,7 @@ module _ (s : Surfels) (v : Voxels) where
         let b = member q l in
         elim (lt_or_le (number_at (group_at (groups s v) k) p) (number_at (group_at (groups s v) k) q)) [
           | inl g ↦ g
-          | inr g ↦ absurd (omega (arith, a.earlier, b.earlier, count_rises key group_is.of-key _ _ g))
+          | inr g ↦ absurd (omega (arith, a.earlier, b.earlier, count_rises key group_is.of_key _ _ g))
         ]
 
   -- keys ascend from group to group
@@ -98,9 +98,9 @@ module _ (s : Surfels) (v : Voxels) where
       let a = group_is j i in
       let b = group_is k h in
       rw ((member j i p l).keyed, (member k h q m).keyed)
-      (elim (lt_or_le a.of-key b.of-key) [
+      (elim (lt_or_le a.of_key b.of_key) [
         | inl g ↦ g
-        | inr g ↦ absurd (omega (arith, a.rank, b.rank, below_rises b.of-key a.of-key g))
+        | inr g ↦ absurd (omega (arith, a.rank, b.rank, below_rises b.of_key a.of_key g))
       ])
 
   -- surfel i is a member of one group, at one place
@@ -128,6 +128,6 @@ module _ (s : Surfels) (v : Voxels) where
         there = rw (w.1, u) (get_or_at b i rest 0 (length b) refl);
         only = λ k q l m f.
             let x = member k l q m in
-            let y : (group_is k l).of-key ≡ c = sym x.keyed ∙ ap key f in
+            let y : (group_is k l).of_key ≡ c = sym x.keyed ∙ ap key f in
             (sym (group_is k l).rank ∙ rw y, sym x.earlier ∙ rw (y, f));
       }

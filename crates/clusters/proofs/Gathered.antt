@@ -116,7 +116,7 @@ module _ (s : Surfels) (v : Voxels) where
       by_test : (t : Bool) → dropped s (keyed c) ≡ t → (k < length (groups_below s v c) → Keyed c k) → Keyed (suc c) k
       by_test true e w =
           let g = w (rw (below_dropped c e) at h) in
-          record { of_key = g.of-key; below = omega (arith, g.below); kept = g.kept; there = rw (below_dropped c e) g.there; rank = g.rank }
+          record { of_key = g.of_key; below = omega (arith, g.below); kept = g.kept; there = rw (below_dropped c e) g.there; rank = g.rank }
       by_test false e w =
           let gs = groups_below s v c in
           let l : k < length gs + 1 = rw (below_kept c e, length-append gs (keyed c ∷ [])) at h in
@@ -124,7 +124,7 @@ module _ (s : Surfels) (v : Voxels) where
             | inl q ↦ record { of_key = c; below = omega arith; kept = e; there = rw (below_kept c e) (get_or_at gs (keyed c) [] [] k (sym q)); rank = sym q }
             | inr q ↦
                 let g = w q in
-                record { of_key = g.of-key; below = omega (arith, g.below); kept = g.kept; there = rw (below_kept c e) (get_or-append gs (keyed c ∷ []) [] k q ∙ g.there); rank = g.rank }
+                record { of_key = g.of_key; below = omega (arith, g.below); kept = g.kept; there = rw (below_kept c e) (get_or-append gs (keyed c ∷ []) [] k q ∙ g.there); rank = g.rank }
           ]
 
   -- what is known where a run begins: the keys below d are done

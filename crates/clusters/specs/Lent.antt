@@ -1,6 +1,6 @@
 -- Surfels and columns of clusters as they are lent: document 01, 'What changes shape' (lent slices). Definitions only.
 use Rattle.std.specs.Prelude.{List, ℕ, Float}
-use Rattle.vector.specs.Flat.{Slice}
+use Rattle.vector.specs.Flat.{Slice, MutSlice}
 
 -- n surfels: where they are, their normals and their areas
 pub record Surfels : Type 0 where
@@ -24,7 +24,7 @@ abbrev pub surfels_in : ℕ → Slice Float → Slice Float → Slice Float → 
 surfels_in n p normals area = record { n = n; p = p.entry.now; normals = normals.entry.now; area = area.entry.now }
 
 -- the columns that it was lent, and as it leaves them
-abbrev pub columns_in : Slice Float → Slice Float → Slice Float → Slice Float → Slice ℕ → Slice ℕ → Slice ℕ → Columns
+abbrev pub columns_in : MutSlice Float → MutSlice Float → MutSlice Float → MutSlice Float → MutSlice ℕ → MutSlice ℕ → MutSlice ℕ → Columns
 columns_in p n area radius first count member =
     record {
       p = p.entry.now;
@@ -36,7 +36,7 @@ columns_in p n area radius first count member =
       member = member.entry.now;
     }
 
-abbrev pub columns_out : Slice Float → Slice Float → Slice Float → Slice Float → Slice ℕ → Slice ℕ → Slice ℕ → Columns
+abbrev pub columns_out : MutSlice Float → MutSlice Float → MutSlice Float → MutSlice Float → MutSlice ℕ → MutSlice ℕ → MutSlice ℕ → Columns
 columns_out p n area radius first count member =
     record {
       p = p.exit.now;

@@ -8,10 +8,12 @@ mod readings;
 mod solves;
 mod targets;
 
-fn main() {
-    solves::limits_of_q();
-    grids::points_of_q();
-    readings::radius_of_q();
-    grids::cells();
-    targets::largest();
+use std::io;
+
+fn main(rt: HostRuntime) -> io::Result<()> {
+    solves::limits_of_q(&rt)?;
+    grids::points_of_q(&rt)?;
+    readings::radius_of_q(&rt)?;
+    grids::cells(&rt)?;
+    targets::largest(&rt)
 }

@@ -1,20 +1,17 @@
 // Room Q read at its surfel, with radius 1 and with radius 0.
 use crate::{grids, solves};
-use libc::STDOUT_FILENO;
 use replay::{Words, print_words, refused};
+use std::io;
 use surfel::{GatherAnswer, Reading};
 use vector::Vec3;
 
 // Prints the reading at the surfel with radius 1, and with radius 0, where it is unseen.
-pub fn radius_of_q() {
+pub fn radius_of_q(rt: &impl Print) -> io::Result<()> {
     let solved = solves::solve_q(12, solves::reset_q());
     let irr = solved.irr;
-    io::write_all(
-        STDOUT_FILENO,
-        b"room Q read at its surfel, radius 1 and radius 0\n",
-    );
-    print_words(words_of(read_q(irr, 1.0)));
-    print_words(words_of(read_q(irr, 0.0)));
+    rt.println("room Q read at its surfel, radius 1 and radius 0")?;
+    print_words(rt, words_of(read_q(irr, 1.0)))?;
+    print_words(rt, words_of(read_q(irr, 0.0)))
 }
 
 // Room Q, with this irradiance, read at its surfel.

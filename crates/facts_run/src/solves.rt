@@ -1,8 +1,8 @@
 // Room Q of document 01, solved with a limit of 7, and with limits of 5 and 2 one after the other.
 use float::bits_of;
-use libc::STDOUT_FILENO;
 use replay::{Words, print_words, refused, short};
 use solve::SolveAnswer;
+use std::io;
 
 // Room Q as solves left it: the number that refused the last, 0 if none did, how many bounces it made,
 // its last change, and the light.
@@ -18,22 +18,19 @@ pub struct SolvedQ {
 
 // Prints what each solve answers, and irr, rad and the cluster's light after it, and whether two solves
 // leave what one does.
-pub fn limits_of_q() {
+pub fn limits_of_q(rt: &impl Print) -> io::Result<()> {
     let five = solve_q(5, reset_q());
     let two = solve_q(2, five);
     let seven = solve_q(7, reset_q());
-    io::write_all(STDOUT_FILENO, b"room Q, limit 5 and then limit 2\n");
-    print_words(words_of(five));
-    print_words(words_of(two));
-    io::write_all(STDOUT_FILENO, b"room Q, limit 7\n");
-    print_words(words_of(seven));
+    rt.println("room Q, limit 5 and then limit 2")?;
+    print_words(rt, words_of(five))?;
+    print_words(rt, words_of(two))?;
+    rt.println("room Q, limit 7")?;
+    print_words(rt, words_of(seven))?;
     if alike(five, two, seven) {
-        io::write_all(
-            STDOUT_FILENO,
-            b"as many bounces, the same last change and light\n",
-        );
+        rt.println("as many bounces, the same last change and light")
     } else {
-        io::write_all(STDOUT_FILENO, b"different\n");
+        rt.println("different")
     }
 }
 

@@ -1,18 +1,15 @@
 // The largest target of placement, and one more.
-use libc::STDOUT_FILENO;
 use placement::GenerateAnswer;
 use replay::{Words, print_words, refused, short};
+use std::io;
 use vector::Vec3;
 
 // Prints what targets of 400,000 and 400,001 are answered with where no slice holds a surfel: 4, since
 // the target is accepted, and 2.
-pub fn largest() {
-    io::write_all(
-        STDOUT_FILENO,
-        b"targets 400000 and 400001, in slices that are too short\n",
-    );
-    print_words(target_of(400_000));
-    print_words(target_of(400_001));
+pub fn largest(rt: &impl Print) -> io::Result<()> {
+    rt.println("targets 400000 and 400001, in slices that are too short")?;
+    print_words(rt, target_of(400_000))?;
+    print_words(rt, target_of(400_001))
 }
 
 // How many surfels are placed with this target and no place for one, or the number of the refusal.

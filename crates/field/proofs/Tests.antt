@@ -1,5 +1,5 @@
 -- One test of `project` in the words of the code: what its calls gave, each with its equation. Assumes nothing.
-use mathlib.Core.Bool.{Bool, true, false, not}
+use mathlib.Core.Bool.{Bool, true, false}
 use mathlib.Core.Path.{◌≡◌, refl, sym, ◌∙◌}
 use Prim.Native.Nat.{ℕ, suc}
 use lib.Ieee.{Float, lt, le}

@@ -2,7 +2,7 @@
 use Rattle.std.specs.Prelude.{cond, List, ◌≡◌, ℕ, ◌+◌, ◌*◌, ◌≤◌, ◌<◌, eqb, Float, length}
 use Rattle.std.proofs.lemmas.List.Edits.{sets}
 use Rattle.float.specs.Arithmetic.{◌+f◌, 0f}
-use Rattle.vector.specs.Flat.{Slice}
+use Rattle.vector.specs.Flat.{MutSlice}
 use Rattle.accept.specs.Limits.{max_surfels, max_clusters, max_links}
 use Rattle.links.specs.declared.Pair.{Pair}
 use Rattle.formfactor.specs.declared.Built.{Built}
@@ -62,12 +62,12 @@ unfoldable pub rows_made : Setting → ℕ → RowsMade
 rows_made t k = record { links = start_of t k; interior = interior t k; evals = evals_of t k }
 
 -- what is told of links that were made, and the scratch in which they stand from place 0 on; the rest of it is as it was
-pub record LinksStanding (l : Links) (r : RowMade) (link : Slice ℕ) (weight : Slice Float) : Type 0 where
+pub record LinksStanding (l : Links) (r : RowMade) (link : MutSlice ℕ) (weight : MutSlice Float) : Type 0 where
   pub told : r ≡ links_made l
   pub clusters : link.exit.now ≡ sets link.entry.now 0 l.cluster
   pub weights : weight.exit.now ≡ sets weight.entry.now 0 l.weight
 
-pub record RowStanding (row : Row) (r : RowMade) (link : Slice ℕ) (weight : Slice Float) : Type 0 where
+pub record RowStanding (row : Row) (r : RowMade) (link : MutSlice ℕ) (weight : MutSlice Float) : Type 0 where
   pub told : r ≡ row_made row
   pub clusters : link.exit.now ≡ sets link.entry.now 0 row.cluster
   pub weights : weight.exit.now ≡ sets weight.entry.now 0 row.weight

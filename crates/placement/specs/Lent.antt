@@ -2,7 +2,7 @@
 use Rattle.std.specs.Prelude.{List, ℕ, Float}
 use Rattle.std.specs.Borrow.{Bor}
 use Rattle.vector.specs.declared.Vec3.{Vec3}
-use Rattle.vector.specs.Flat.{Slice}
+use Rattle.vector.specs.Flat.{Slice, MutSlice}
 use Rattle.tables.specs.Tables.{Scene}
 
 -- a scene, so many materials, the bounds from lo to hi, and how many surfels are asked for
@@ -40,15 +40,15 @@ columns_of p n albedo area direct irr rad = record { p = p; n = n; albedo = albe
 abbrev pub columns_now : Bor (List Float) → Bor (List Float) → Bor (List Float) → Bor (List Float) → Bor (List Float) → Bor (List Float) → Bor (List Float) → Columns
 columns_now p n albedo area direct irr rad = columns_of p.now n.now albedo.now area.now direct.now irr.now rad.now
 
-abbrev pub columns_in : Slice Float → Slice Float → Slice Float → Slice Float → Slice Float → Slice Float → Slice Float → Columns
+abbrev pub columns_in : MutSlice Float → MutSlice Float → MutSlice Float → MutSlice Float → MutSlice Float → MutSlice Float → MutSlice Float → Columns
 columns_in p n albedo area direct irr rad =
     columns_of p.entry.now n.entry.now albedo.entry.now area.entry.now direct.entry.now irr.entry.now rad.entry.now
 
-abbrev pub columns_out : Slice Float → Slice Float → Slice Float → Slice Float → Slice Float → Slice Float → Slice Float → Columns
+abbrev pub columns_out : MutSlice Float → MutSlice Float → MutSlice Float → MutSlice Float → MutSlice Float → MutSlice Float → MutSlice Float → Columns
 columns_out p n albedo area direct irr rad =
     columns_of p.exit.now n.exit.now albedo.exit.now area.exit.now direct.exit.now irr.exit.now rad.exit.now
 
 -- as a function leaves them that only reads the points
-abbrev pub columns_over : Slice Float → Slice Float → Slice Float → Slice Float → Slice Float → Slice Float → Slice Float → Columns
+abbrev pub columns_over : Slice Float → MutSlice Float → MutSlice Float → MutSlice Float → MutSlice Float → MutSlice Float → MutSlice Float → Columns
 columns_over p n albedo area direct irr rad =
     columns_of p.entry.now n.exit.now albedo.exit.now area.exit.now direct.exit.now irr.exit.now rad.exit.now

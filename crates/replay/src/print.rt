@@ -1,22 +1,21 @@
 // Printing an answer.
 use crate::Words;
-use libc::STDOUT_FILENO;
+use std::io;
 
 // Writes the words, a space between two, or `unread` where there is none, and a newline.
-pub fn print_words(r: Words) {
+pub fn print_words(rt: &impl Print, r: Words) -> io::Result<()> {
     let count = r.count;
     if count == 0 {
-        io::write_all(STDOUT_FILENO, b"unread\n");
-        return;
+        return rt.write_all(b"unread\n");
     }
     if 16 < count {
-        return;
+        return Ok(());
     }
     let words = r.words;
     let mut line = [b' '; 144];
     put_words(&mut line, &words);
     text::put(&mut line, 9 * count - 1, b"\n");
-    write_start(&line, 9 * count);
+    write_start(rt, &line, 9 * count)
 }
 
 // Puts each word's digits into the line, nine bytes a word.
@@ -30,8 +29,9 @@ fn put_words(line: &mut [u8], words: &[u32; 16]) {
 }
 
 // Writes the first n bytes of the line.
-fn write_start(line: &[u8], n: usize) {
+fn write_start(rt: &impl Print, line: &[u8], n: usize) -> io::Result<()> {
     if n <= line.len() {
-        io::write_all(STDOUT_FILENO, &line[..n]);
+        rt.write_all(&line[..n])?;
     }
+    Ok(())
 }

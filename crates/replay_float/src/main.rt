@@ -5,20 +5,21 @@
 
 mod answer;
 
-use libc::STDIN_FILENO;
+use std::io;
 
-fn main() {
+fn main(rt: HostRuntime) -> io::Result<()> {
     let mut text = [0u8; 524288];
-    let n = io::read_full(STDIN_FILENO, &mut text);
-    replay_lines(&text[..n]);
+    let n = input::read_full(&rt, &mut text)?;
+    replay_lines(&rt, &text[..n])
 }
 
 // Prints the answer to each line of s.
-fn replay_lines(s: &[u8]) {
+fn replay_lines(rt: &impl Print, s: &[u8]) -> io::Result<()> {
     let mut at = 0;
     while at < s.len() {
         let next = replay::line_end(s, at);
-        replay::print_words(answer::to(&s[at..next]));
+        replay::print_words(rt, answer::to(&s[at..next]))?;
         at = next;
     }
+    Ok(())
 }

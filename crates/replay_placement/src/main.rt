@@ -6,8 +6,8 @@
 mod answer;
 mod show;
 
-use libc::STDIN_FILENO;
 use replay::named;
+use std::io;
 use stored::Stored as Scene;
 use stored_placement::Stored;
 
@@ -18,21 +18,22 @@ struct Held {
     stored: Stored,
 }
 
-fn main() {
+fn main(rt: HostRuntime) -> io::Result<()> {
     let mut text = [0u8; 524288];
-    let n = io::read_full(STDIN_FILENO, &mut text);
-    replay_lines(&text[..n]);
+    let n = input::read_full(&rt, &mut text)?;
+    replay_lines(&rt, &text[..n])
 }
 
 // Stores, shows or answers each line of s.
-fn replay_lines(s: &[u8]) {
+fn replay_lines(rt: &impl Print, s: &[u8]) -> io::Result<()> {
     let mut held = nothing();
     let mut at = 0;
     while at < s.len() {
         let next = replay::line_end(s, at);
-        held = replay_line(held, &s[at..next]);
+        held = replay_line(rt, held, &s[at..next])?;
         at = next;
     }
+    Ok(())
 }
 
 // Nothing is held.
@@ -44,26 +45,26 @@ fn nothing() -> Held {
 }
 
 // What is held after a line.
-fn replay_line(held: Held, line: &[u8]) -> Held {
+fn replay_line(rt: &impl Print, held: Held, line: &[u8]) -> io::Result<Held> {
     let mut next = held;
     if stored::stores(line) {
         next.scene = held.scene.with_line(line);
-        return next;
+        return Ok(next);
     }
     if named(line, b"show") {
-        show::print(held.stored, line);
-        return next;
+        show::print(rt, held.stored, line)?;
+        return Ok(next);
     }
-    next.stored = after(held.scene, held.stored, line);
-    next
+    next.stored = after(rt, held.scene, held.stored, line)?;
+    Ok(next)
 }
 
 // What is stored after a line that stores or asks.
-fn after(scene: Scene, stored: Stored, line: &[u8]) -> Stored {
+fn after(rt: &impl Print, scene: Scene, stored: Stored, line: &[u8]) -> io::Result<Stored> {
     if stored_placement::stores(line) {
-        return stored.with_line(line);
+        return Ok(stored.with_line(line));
     }
     let asked = answer::to(scene, stored, line);
-    replay::print_words(asked.words);
-    asked.stored
+    replay::print_words(rt, asked.words)?;
+    Ok(asked.stored)
 }

@@ -9,8 +9,8 @@ mod show;
 
 use columns::Columns;
 use lent_file::lent_by;
-use libc::STDIN_FILENO;
 use replay::{Words, named};
+use std::io;
 
 // What the columns hold, and how many places of each a reading is lent, in the order of its
 // parameters.
@@ -21,22 +21,23 @@ struct Held {
 }
 
 // The file is zeros at first.
-fn main() {
+fn main(rt: HostRuntime) -> io::Result<()> {
     let mut lines = [0u8; 524288];
     let mut file = [0u8; 4096];
-    let n = io::read_full(STDIN_FILENO, &mut lines);
-    replay_lines(&mut file, &lines[..n]);
+    let n = input::read_full(&rt, &mut lines)?;
+    replay_lines(&rt, &mut file, &lines[..n])
 }
 
 // Stores or answers each line of s.
-fn replay_lines(file: &mut [u8], s: &[u8]) {
+fn replay_lines(rt: &impl Print, file: &mut [u8], s: &[u8]) -> io::Result<()> {
     let mut held = nothing();
     let mut at = 0;
     while at < s.len() {
         let next = replay::line_end(s, at);
-        held = replay_line(file, held, &s[at..next]);
+        held = replay_line(rt, file, held, &s[at..next])?;
         at = next;
     }
+    Ok(())
 }
 
 // Every place holds zero, and all places are lent.
@@ -48,47 +49,53 @@ fn nothing() -> Held {
 }
 
 // What is held after a line.
-fn replay_line(file: &mut [u8], held: Held, line: &[u8]) -> Held {
+fn replay_line(rt: &impl Print, file: &mut [u8], held: Held, line: &[u8]) -> io::Result<Held> {
     let given = replay::operands(line);
     if named(line, b"clear") {
         stored_file::clear(file);
-        return held;
+        return Ok(held);
     }
     if named(line, b"put") {
         stored_file::put(file, given);
-        return held;
+        return Ok(held);
     }
-    with_line(file, held, line, given)
+    with_line(rt, file, held, line, given)
 }
 
 // What is held after a line that does not change the file.
-fn with_line(file: &[u8], held: Held, line: &[u8], given: Words) -> Held {
+fn with_line(
+    rt: &impl Print,
+    file: &[u8],
+    held: Held,
+    line: &[u8],
+    given: Words,
+) -> io::Result<Held> {
     let w = given.words;
     let mut next = held;
     if named(line, b"mark") {
         next.columns = Columns::marked(w[0]);
-        return next;
+        return Ok(next);
     }
     if named(line, b"lend") {
         next.lent = w;
-        return next;
+        return Ok(next);
     }
     if named(line, b"read") {
-        return read(file, held, w[0]);
+        return read(rt, file, held, w[0]);
     }
-    replay::print_words(shown(held.columns, line, w));
-    next
+    replay::print_words(rt, shown(held.columns, line, w))?;
+    Ok(next)
 }
 
 // What is held after the first so many bytes of the file are read.
-fn read(file: &[u8], held: Held, length: u32) -> Held {
+fn read(rt: &impl Print, file: &[u8], held: Held, length: u32) -> io::Result<Held> {
     let lent = held.lent;
     let left = ask::read(file, length as usize, held.columns, lent_by(lent));
-    replay::print_words(left.words);
+    replay::print_words(rt, left.words)?;
     let columns = left.columns;
     let mut next = held;
     next.columns = columns;
-    next
+    Ok(next)
 }
 
 // Up to 16 words of a column from a place on; none where the line is no such question.

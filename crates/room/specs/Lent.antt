@@ -1,6 +1,6 @@
 -- The columns that a room file is read into: document 01, 'The room file and `roomlight`' and 'What changes shape' (lent slices). Definitions only.
 use Rattle.std.specs.Prelude.{List, ℕ, Float}
-use Rattle.vector.specs.Flat.{Slice}
+use Rattle.vector.specs.Flat.{MutSlice}
 
 -- of the surfels
 pub record SurfelColumns : Type 0 where
@@ -46,13 +46,13 @@ columns_of p normals albedo area direct cluster_area first count member starts l
     }
 
 -- the columns that a function was lent, and as it leaves them
-abbrev pub columns_in : Slice Float → Slice Float → Slice Float → Slice Float → Slice Float → Slice Float → Slice ℕ → Slice ℕ → Slice ℕ → Slice ℕ → Slice ℕ → Slice Float → Slice Float → Slice Float → Columns
+abbrev pub columns_in : MutSlice Float → MutSlice Float → MutSlice Float → MutSlice Float → MutSlice Float → MutSlice Float → MutSlice ℕ → MutSlice ℕ → MutSlice ℕ → MutSlice ℕ → MutSlice ℕ → MutSlice Float → MutSlice Float → MutSlice Float → Columns
 columns_in p normals albedo area direct cluster_area first count member starts link_cluster link_weight probe_p probe_normals =
     columns_of p.entry.now normals.entry.now albedo.entry.now area.entry.now direct.entry.now cluster_area.entry.now
     first.entry.now count.entry.now member.entry.now starts.entry.now link_cluster.entry.now link_weight.entry.now
     probe_p.entry.now probe_normals.entry.now
 
-abbrev pub columns_out : Slice Float → Slice Float → Slice Float → Slice Float → Slice Float → Slice Float → Slice ℕ → Slice ℕ → Slice ℕ → Slice ℕ → Slice ℕ → Slice Float → Slice Float → Slice Float → Columns
+abbrev pub columns_out : MutSlice Float → MutSlice Float → MutSlice Float → MutSlice Float → MutSlice Float → MutSlice Float → MutSlice ℕ → MutSlice ℕ → MutSlice ℕ → MutSlice ℕ → MutSlice ℕ → MutSlice Float → MutSlice Float → MutSlice Float → Columns
 columns_out p normals albedo area direct cluster_area first count member starts link_cluster link_weight probe_p probe_normals =
     columns_of p.exit.now normals.exit.now albedo.exit.now area.exit.now direct.exit.now cluster_area.exit.now
     first.exit.now count.exit.now member.exit.now starts.exit.now link_cluster.exit.now link_weight.exit.now

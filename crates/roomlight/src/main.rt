@@ -1,28 +1,30 @@
 // Prints the report of the room file that stands on standard input.
 #![tactic(auto)]
 
-use libc::{STDIN_FILENO, STDOUT_FILENO};
 use report::ReportAnswer;
+use std::io;
 
 // One byte more is read than a room may have, so that a longer file is seen to be too long.
-fn main() {
+fn main(rt: HostRuntime) -> io::Result<()> {
     let mut file = [0u8; 65537];
-    let n = io::read_full(STDIN_FILENO, &mut file);
-    print_report(&file[..n]);
+    let n = input::read_full(&rt, &mut file)?;
+    print_report(&rt, &file[..n])
 }
 
 // Prints the report of these bytes; of a room that is refused it says the number.
-fn print_report(bytes: &[u8]) {
+fn print_report(rt: &impl Print, bytes: &[u8]) -> io::Result<()> {
     let mut text = [0u8; report::MAX_REPORT];
     let answer = report::room_report(bytes, &mut text);
     if let ReportAnswer::Done(end) = answer {
-        print_start(&text, end);
+        print_start(rt, &text, end)?;
     }
+    Ok(())
 }
 
 // Prints the text up to a byte, nothing where it has no such byte.
-fn print_start(text: &[u8], end: usize) {
+fn print_start(rt: &impl Print, text: &[u8], end: usize) -> io::Result<()> {
     if end <= text.len() {
-        io::write_all(STDOUT_FILENO, &text[..end]);
+        rt.write_all(&text[..end])?;
     }
+    Ok(())
 }

@@ -93,11 +93,11 @@ value_of b u = elim (here_or_on b (2 ^ 23)) [ inl l ↦ under l | inr g ↦ over
 
 -- ---- what is above 0
 
--- where the test of both fails to be false
-pub both : (a b : Bool) → not (a && b) ≡ false → (a ≡ true) × (b ≡ true)
+-- where both hold
+pub both : (a b : Bool) → (a && b) ≡ true → (a ≡ true) × (b ≡ true)
 both true true e = (refl, refl)
-both true false e = absurd (true≢false e)
-both false b e = absurd (true≢false e)
+both true false e = absurd (true≢false (sym e))
+both false b e = absurd (true≢false (sym e))
 
 pub no_nan : (x : Float) → lt 0f x ≡ true → T (not (is_nan x))
 unfolding lt is_nan of_bits

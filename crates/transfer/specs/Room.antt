@@ -1,6 +1,6 @@
 -- A room as a solve is handed it: document 01, 'The solve' and 'What changes shape' (lent slices). Definitions only.
 use Rattle.std.specs.Prelude.{List, ℕ, Float}
-use Rattle.vector.specs.Flat.{Slice}
+use Rattle.vector.specs.Flat.{Slice, MutSlice}
 
 -- nc clusters: their areas; of each the first of its members, and how many they are; and of each member, of so many, its surfel
 pub record Clusters : Type 0 where
@@ -58,8 +58,8 @@ room_in n nc members links albedo area direct cluster_area first count member st
     (rows_in links starts link_cluster link_weight)
 
 -- the light that a function was lent, and the light that it leaves
-abbrev pub light_in : Slice Float → Slice Float → Light
+abbrev pub light_in : MutSlice Float → MutSlice Float → Light
 light_in irr rad = light_of irr.entry.now rad.entry.now
 
-abbrev pub light_out : Slice Float → Slice Float → Light
+abbrev pub light_out : MutSlice Float → MutSlice Float → Light
 light_out irr rad = light_of irr.exit.now rad.exit.now

@@ -1,6 +1,6 @@
 -- Flat lists, vectors at three places each (document 01, 'What changes shape': lent slices), and what a loop that writes from the front leaves. Definitions only.
 use Rattle.std.specs.Prelude.{List, [], ◌∷◌, ◌++◌, ◌≡◌, ℕ, zero, suc, ◌+◌, ◌*◌, drop, Float}
-use Rattle.std.specs.Borrow.{Bor}
+use Rattle.std.specs.Borrow.{Bor, MutBor}
 use denote.Triple.Both.{Both}
 use Rattle.std.proofs.lemmas.List.Edits.{sets}
 use Rattle.float.specs.Column.{float_at}
@@ -11,15 +11,19 @@ use Rattle.vector.specs.Vector.{vec}
 abbrev pub Moments : Type 0 → Type 0
 Moments X = Both X X
 
--- a number that is written through a reference, and a lent slice
+-- a number that is written through a reference
 abbrev pub Out : Type 0 → Type 0
-Out X = Moments (Bor X)
+Out X = Moments (MutBor X)
 
+-- a lent slice, one that is read and one that is written
 abbrev pub Slice : Type 0 → Type 0
-Slice X = Out (List X)
+Slice X = Moments (Bor (List X))
+
+abbrev pub MutSlice : Type 0 → Type 0
+MutSlice X = Out (List X)
 
 -- a slice is as it was from place k on
-abbrev pub KeptFrom : {X : Type 0} → ℕ → Slice X → Type 0
+abbrev pub KeptFrom : {X : Type 0} → ℕ → MutSlice X → Type 0
 KeptFrom k l = drop k l.exit.now ≡ drop k l.entry.now
 
 -- the vector number i of a flat list; a float outside is NaN
