@@ -28,7 +28,7 @@ use Rattle.placement.specs.declared.GenerateAnswer.TheVariants.{Refused, Done}
 use Rattle.placement.specs.Answers.{surfel_of, generate_answer, head_open, next_open}
 use Rattle.placement.specs.Chains.{points_left}
 use Rattle.placement.specs.Checks.{spacing_for, head_need, few_enough, lengths_hold, columns_hold, later_tests, refusal_by, refusal}
-use Rattle.placement.specs.Kept.{dims_in, point_at, kept, placed, columns_by}
+use Rattle.placement.specs.Kept.{dims_in, point_at, placed, columns_by}
 use Rattle.placement.specs.Lent.{Request, Columns, columns_of}
 use Rattle.placement.specs.Needs.{Held, Roomy}
 use Rattle.placement.proofs.Columned.{roomy_fewer, columns_put_points}

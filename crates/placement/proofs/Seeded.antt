@@ -162,13 +162,13 @@ module _ (scene : Scene) (s : Spacing) (target : ℕ) where
           rw n
           (record {
             counted = t₀ ∙ t.counted;
-            few = omega (arith, t₀, t.few-still);
+            few = omega (arith, t₀, t.few_still);
             stored = t₁ ∙ t.stored ∙ ap (λ (k : ℕ). written (point_at (keep (suc i))) k p₀) (sym t₀);
             long = lp ∙ h.long;
             celled = lh ∙ h.celled;
             linked = ln ∙ h.linked;
             chains = c;
-            head_past = hp ∙ h.head-past;
+            head_past = hp ∙ h.head_past;
             next_past = past_later (count + 1) target next' next (omega arith) np ∙ h.next_past;
           })
 

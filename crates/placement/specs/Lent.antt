@@ -1,6 +1,6 @@
 -- What surfels are placed from, and their columns, as they are lent: document 01, 'What changes shape' (lent slices). Definitions only.
 use Rattle.std.specs.Prelude.{List, ℕ, Float}
-use Rattle.std.specs.Borrow.{Bor}
+use Rattle.std.specs.Borrow.{Bor, MutBor}
 use Rattle.vector.specs.declared.Vec3.{Vec3}
 use Rattle.vector.specs.Flat.{Slice, MutSlice}
 use Rattle.tables.specs.Tables.{Scene}
@@ -37,7 +37,7 @@ abbrev pub columns_of : List Float → List Float → List Float → List Float 
 columns_of p n albedo area direct irr rad = record { p = p; n = n; albedo = albedo; area = area; direct = direct; irr = irr; rad = rad }
 
 -- those that a function asks for, that it was lent, and as it leaves them
-abbrev pub columns_now : Bor (List Float) → Bor (List Float) → Bor (List Float) → Bor (List Float) → Bor (List Float) → Bor (List Float) → Bor (List Float) → Columns
+abbrev pub columns_now : Bor (List Float) → MutBor (List Float) → MutBor (List Float) → MutBor (List Float) → MutBor (List Float) → MutBor (List Float) → MutBor (List Float) → Columns
 columns_now p n albedo area direct irr rad = columns_of p.now n.now albedo.now area.now direct.now irr.now rad.now
 
 abbrev pub columns_in : MutSlice Float → MutSlice Float → MutSlice Float → MutSlice Float → MutSlice Float → MutSlice Float → MutSlice Float → Columns
@@ -48,7 +48,11 @@ abbrev pub columns_out : MutSlice Float → MutSlice Float → MutSlice Float �
 columns_out p n albedo area direct irr rad =
     columns_of p.exit.now n.exit.now albedo.exit.now area.exit.now direct.exit.now irr.exit.now rad.exit.now
 
--- as a function leaves them that only reads the points
+-- those that a function was lent that only reads the points, and as it leaves them
+abbrev pub columns_read : Slice Float → MutSlice Float → MutSlice Float → MutSlice Float → MutSlice Float → MutSlice Float → MutSlice Float → Columns
+columns_read p n albedo area direct irr rad =
+    columns_of p.entry.now n.entry.now albedo.entry.now area.entry.now direct.entry.now irr.entry.now rad.entry.now
+
 abbrev pub columns_over : Slice Float → MutSlice Float → MutSlice Float → MutSlice Float → MutSlice Float → MutSlice Float → MutSlice Float → Columns
 columns_over p n albedo area direct irr rad =
     columns_of p.entry.now n.exit.now albedo.exit.now area.exit.now direct.exit.now irr.exit.now rad.exit.now

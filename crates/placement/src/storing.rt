@@ -3,7 +3,7 @@ ghost use Rattle.std.specs.Prelude.{◌≡◌, set};
 ghost use Rattle.vector.specs.Flat.{vec_at, put_at};
 ghost use Rattle.tables.specs.Tables.{scene_in};
 ghost use Rattle.seeds.specs.Surfels.{surfel_at};
-ghost use Rattle.placement.specs.Lent.{columns_in, columns_now, columns_over};
+ghost use Rattle.placement.specs.Lent.{columns_now, columns_over, columns_read};
 ghost use Rattle.placement.specs.Kept.{columns_by};
 ghost use Rattle.placement.specs.Needs.{Roomy};
 
@@ -34,7 +34,7 @@ pub fn store(
     requires { Roomy count (columns_now p n albedo area direct irr rad) }
     ensures { columns_over p n albedo area direct irr rad
         ≡ columns_by (λ i. surfel_at (scene_in prims planes objects kinds lengths plane_parts object_parts) mats
-        materials.now s (vec_at p.now i)) count (columns_in p n albedo area direct irr rad) }
+        materials.now s (vec_at p.now i)) count (columns_read p n albedo area direct irr rad) }
 {
     let mut i = 0;
     while i < count {

@@ -55,7 +55,11 @@ sum_over x u y w a b p e g =
 -- the sum of two short fractions is exact where it is short
 pub add_exact : (x y : Float) (a b t : ℕ) → a + b < 2 ^ 24 → t ≤ 149 → Short x a t → Short y b t → Short (x +f y) (a + b) t
 unfolding add sum
+add_exact nan y a b t q h v w = elim v [ ]
+add_exact (inf _) y a b t q h v w = elim v [ ]
 add_exact (fin true m e) y a b t q h v w = absurd (true≢false v.0)
+add_exact (fin false m e) nan a b t q h v w = elim w [ ]
+add_exact (fin false m e) (inf _) a b t q h v w = elim w [ ]
 add_exact (fin false m e) (fin true n d) a b t q h v w = absurd (true≢false w.0)
 add_exact (fin false m e) (fin false n d) a b t q h v w =
     round_short (m * up e * down d + n * up d * down e) (down e * down d) (a + b) t (mul-pos (down_pos e) (down_pos d)) q h
@@ -68,7 +72,11 @@ product_over x u y w a b p q e g = rw (mul-mul-mul_comm x y p q, e, g) (mul-mul-
 -- so is their product, c / 2 ^ u
 pub mul_exact : (x y : Float) (a b c s t u : ℕ) → a * b ≡ c → s + t ≡ u → c < 2 ^ 24 → u ≤ 149 → Short x a s → Short y b t → Short (x *f y) c u
 unfolding mul
+mul_exact nan y a b c s t u p g q h v w = elim v [ ]
+mul_exact (inf _) y a b c s t u p g q h v w = elim v [ ]
 mul_exact (fin true m e) y a b c s t u p g q h v w = absurd (true≢false v.0)
+mul_exact (fin false m e) nan a b c s t u p g q h v w = elim w [ ]
+mul_exact (fin false m e) (inf _) a b c s t u p g q h v w = elim w [ ]
 mul_exact (fin false m e) (fin true n d) a b c s t u p g q h v w = absurd (true≢false w.0)
 mul_exact (fin false m e) (fin false n d) a b c s t u p g q h v w =
     round_short (m * up e * (n * up d)) (down e * down d) c u (mul-pos (down_pos e) (down_pos d)) q h
