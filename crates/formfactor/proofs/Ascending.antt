@@ -14,7 +14,7 @@ use lib.Seq.{sets, slice, length-sets, get_or_at, get_or-take, get_or-append-add
 use Rattle.vector.specs.Flat.{rows}
 use Rattle.vector.specs.Fold.{fold}
 use Rattle.vector.proofs.Replaced.{length_filled, at_filled}
-use Rattle.vector.proofs.Stored.{at-slice, rows_slice, take_sets}
+use Rattle.vector.proofs.Stored.{slice_at, rows_slice, take_sets}
 use Rattle.accept.specs.Every.{every}
 use Rattle.accept.specs.Tables.{number_at, all_below, monotone, ascends, all_ascend, numbers_below, links_ascend}
 use Rattle.accept.proofs.Every.{every_all}

@@ -4,10 +4,10 @@ use mathlib.Core.Path.{◌≡◌, refl, sym, ap}
 use Prim.Native.Nat.{ℕ}
 use borrow.Fn.World.{ArgsD}
 use contract.Lifetimes.{Lfts}
-use denote.Ref.{at_last}
+use denote.MutBor.{at_last}
 use denote.Triple.Clauses.{Lasts, AtExit, at_exit}
 use lib.Ieee.{Float}
-use Rattle.vector.specs.Flat.{Slice}
+use Rattle.vector.specs.Flat.{Slice, MutSlice}
 use Rattle.solve.specs.declared.SolveAnswer.{SolveAnswer}
 use Rattle.transfer.specs.Room.{room_in, light_in, light_out}
 use Rattle.solve.specs.Calls.{with_light, Call, outcome, left}
@@ -20,7 +20,7 @@ abbrev ◌&◌ : {A B : Type 0} → A → B → A × B
 a & b = (a, b)
 
 module _ (κs : Lfts 13) (n nc members links limit : ℕ)
-    (albedo area direct cluster_area : Slice Float) (first count member starts link_cluster : Slice ℕ) (link_weight irr rad scratch : Slice Float) where
+    (albedo area direct cluster_area : Slice Float) (first count member starts link_cluster : Slice ℕ) (link_weight : Slice Float) (irr rad scratch : MutSlice Float) where
   -- the arguments of a call of `solve`
   abbrev pub args : ArgsD solve.signature κs
   args =

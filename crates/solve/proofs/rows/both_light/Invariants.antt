@@ -1,0 +1,15 @@
+-- `solve::rows::both_light` meets its contract. The loop has summed what the first j links of either row bring. Assumes nothing.
+use mathlib.Core.Path.{◌≡◌}
+use Prim.Native.Nat.{◌+◌, ◌-◌, ◌≤◌}
+use Rattle.vector.specs.Flat.{vec_at}
+use Rattle.vector.specs.Fold.{total}
+use Rattle.solve.specs.Bounce.{link_light}
+use Rattle.solve.proofs.rows.both_light.Given as goal
+
+abbrev pub invariant-loop-j : goal.invariant-loop-j
+invariant-loop-j l = (l.j ≤ l.count)
+    × (l.first ≡ total (λ k. link_light l.link_cluster l.link_weight (vec_at l.light) (l.a + k)) l.j)
+    × (l.second ≡ total (λ k. link_light l.link_cluster l.link_weight (vec_at l.light) (l.b + k)) l.j)
+
+abbrev pub decreases-loop-j : goal.decreases-loop-j
+decreases-loop-j l = l.count - l.j
