@@ -1,6 +1,6 @@
 // Whether lent columns hold a room.
 ghost use Rattle.std.specs.Prelude.{◌≡◌};
-ghost use Rattle.room.specs.Lent.{columns_in};
+ghost use Rattle.room.specs.Lent.{columns_of};
 ghost use Rattle.room.specs.Answers.{columns_hold};
 
 use accept::{holds, wide};
@@ -26,7 +26,8 @@ pub fn columns_hold(
 ) -> bool
     ensures { result
         ≡ columns_hold c
-        (columns_in p normals albedo area direct cluster_area first count member starts link_cluster link_weight probe_p probe_normals) }
+        (columns_of p.now normals.now albedo.now area.now direct.now cluster_area.now first.now count.now member.now starts.now
+        link_cluster.now link_weight.now probe_p.now probe_normals.now) }
 {
     let n = wide(c.surfels);
     let nc = wide(c.clusters);
