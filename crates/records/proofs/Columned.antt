@@ -1,15 +1,16 @@
 -- The columns of records, what a reset leaves of them, and that columns tell their records. Assumes nothing.
-use mathlib.Core.Bool.{Bool, true, false, ◌&&◌}
+use mathlib.Core.Bool.{Bool, true, false, ◌&&◌, true≢false}
 use mathlib.Core.List.{List, [], ◌∷◌, ◌++◌, append_assoc}
 use mathlib.Core.Path.{◌≡◌, refl, sym, ap, ◌∙◌}
-use Prim.Native.Nat.{ℕ, zero, suc, ◌*◌, ◌<◌, ◌≤◌}
-use native.Mathlib.Numerals.{add-one}
+use Prim.Native.Nat.{ℕ, zero, suc, ◌+◌, ◌*◌, ◌<◌, ◌≤◌}
+use mathlib.Core.Logic.{inl, inr}
 use native.Mathlib.Omega.{arith}
-use borrow.Author.Tests.{lt-ltb, le-ltb, lt-leb, ne_eqb}
+use borrow.Author.Tests.{lt-ltb, lt-leb, ltb-true, eqb-true, ne_eqb}
 use lib.Dec.{leb, ltb, eqb}
 use lib.Ieee.{Float}
 use lib.ListN.{length, set, drop, drop_of_length-le}
 use Rattle.float.specs.Arithmetic.{0f}
+use Rattle.float.proofs.Numbers.{here_or_on}
 use Rattle.vector.specs.declared.Vec3.{Vec3}
 use Rattle.vector.specs.Flat.{vec_at, components, rows, replaced, written, filled}
 use Rattle.vector.specs.Vector.{zero_vec}
@@ -90,18 +91,25 @@ pub set_most : (number n : ℕ) → set_count number n ≤ n
 set_most zero n = omega arith
 set_most (suc number) n = omega arith
 
--- the loop's test holds while a record is left to set, and fails after the last
-never : (a b : Bool) → b ≡ false → (a && b) ≡ false
-never true b e = e
-never false b e = refl
+-- where the loop's test holds a record is left to set, and where it fails none is
+both : (a b : Bool) → (a && b) ≡ true → (a ≡ true) × (b ≡ true)
+both true true e = (refl, refl)
+both true false e = absurd (true≢false (sym e))
+both false b e = absurd (true≢false (sym e))
 
-pub test_more : (number n i : ℕ) → i < set_count number n → (ltb i n && eqb number 0) ≡ true
-test_more zero n i h = rw (lt-ltb i n h)
-test_more (suc number) n i h = absurd (omega arith)
+pub test_more : (number n i : ℕ) → (ltb i n && eqb number 0) ≡ true → i < set_count number n
+test_more zero n i e = ltb-true i n (both (ltb i n) (eqb zero 0) e).0
+test_more (suc number) n i e = absurd (no (eqb-true (suc number) 0 (both (ltb i n) (eqb (suc number) 0) e).1))
+  where
+    no : suc number ≡ 0 → ⊥
+    no h = omega arith
 
-pub test_last : (number n : ℕ) → (ltb (set_count number n) n && eqb number 0) ≡ false
-test_last zero n = rw (le-ltb n n (omega arith))
-test_last (suc number) n = never (ltb 0 n) (eqb (suc number) 0) (ne_eqb (suc number) 0 (λ e. absurd (omega arith)))
+pub test_last : (number n i : ℕ) → i ≤ set_count number n → (ltb i n && eqb number 0) ≡ false → i ≡ set_count number n
+test_last zero n i h e = elim (here_or_on i n) [
+  | inl l ↦ absurd (true≢false (sym (rw (lt-ltb i n l)) ∙ e))
+  | inr g ↦ omega arith
+]
+test_last (suc number) n i h e = omega arith
 
 -- the records when the first i are set
 unfoldable pub set_to : List Float → ℕ → List Light → List Light
@@ -115,9 +123,9 @@ pub set-length : (light : List Float) (i : ℕ) (rs : List Light) → i ≤ leng
 unfolding set_to
 set-length light i rs h = length_filled (light_at light) i rs h
 
-pub set_more : (light : List Float) (i : ℕ) (rs : List Light) → i < length rs → set (set_to light i rs) i (light_at light i) ≡ set_to light (suc i) rs
+pub set_more : (light : List Float) (i : ℕ) (rs : List Light) → i < length rs → set (set_to light i rs) i (light_at light i) ≡ set_to light (i + 1) rs
 unfolding set_to
-set_more light i rs h = rw (add-one i) at (filled_put (light_at light) i rs refl h refl refl)
+set_more light i rs h = filled_put (light_at light) i rs refl h refl refl
 
 module _ (light : List Float) (rs : List Light) where
   set_by : (number : ℕ) → reset_refusal light (3 * length rs) (3 * length rs) (3 * length rs) ≡ number

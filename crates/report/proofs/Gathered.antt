@@ -136,7 +136,7 @@ module _ (b : List ℕ) (e : report_refusal b ≡ 0) where
 
     points_held : points_within c.surfels (surfels_of_file b) ≡ true
     unfolding points_within surfels_of_file
-    points_held = rw (all_within_lem.points_passed, all_within_lem.normals-passed)
+    points_held = rw (all_within_lem.points_passed, all_within_lem.normals_passed)
 
     probes_held : let q = probes_of_file b in probes_lent q.count (length q.p) (length q.normals) (length seen) (length light) ≡ true
     unfolding probes_lent probes_of_file
@@ -150,7 +150,7 @@ module _ (b : List ℕ) (e : report_refusal b ≡ 0) where
 
     probes_within : let q = probes_of_file b in (coordinates q.p q.count && coordinates q.normals q.count) ≡ true
     unfolding probes_of_file
-    probes_within = rw (all_within_lem.probes-passed, all_within_lem.facing-passed)
+    probes_within = rw (all_within_lem.probes_passed, all_within_lem.facing_passed)
 
     gather_accepts : all_refusal (grid_of_file b) (surfels_of_file b) (probes_of_file b) (length seen) (length light) ≡ 0
     unfolding refusal grid_of_file probes_of_file first_failed

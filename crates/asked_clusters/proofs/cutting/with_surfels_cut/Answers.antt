@@ -1,0 +1,29 @@
+-- `asked_clusters::cutting::with_surfels_cut` is safe and ends. The first k places of a table that has as many are k. Assumes nothing.
+use mathlib.Core.Path.{sym}
+use lib.Seq.{length-take-le}
+use borrow.Author.Rules.{rules}
+use Rattle.asked_clusters.proofs.cutting.with_surfels_cut.Goals as goal
+
+pub slice_bounds-build_clusters-end-2 : goal.slice_bounds-build_clusters-end-2
+slice_bounds-build_clusters-end-2 c =
+    sym (length-take-le _ _ (search rules))
+
+pub slice_bounds-build_clusters-end-4 : goal.slice_bounds-build_clusters-end-4
+slice_bounds-build_clusters-end-4 c =
+    sym (length-take-le _ _ (search rules))
+
+pub slice_bounds-build_clusters-end-6 : goal.slice_bounds-build_clusters-end-6
+slice_bounds-build_clusters-end-6 c =
+    sym (length-take-le _ _ (search rules))
+
+pub slice_bounds-build_clusters-end-8 : goal.slice_bounds-build_clusters-end-8
+slice_bounds-build_clusters-end-8 c =
+    sym (length-take-le _ _ (search rules))
+
+pub slice_bounds-build_clusters-end-10 : goal.slice_bounds-build_clusters-end-10
+slice_bounds-build_clusters-end-10 c =
+    sym (length-take-le _ _ (search rules))
+
+pub slice_bounds-build_clusters-end-12 : goal.slice_bounds-build_clusters-end-12
+slice_bounds-build_clusters-end-12 c =
+    sym (length-take-le _ _ (search rules))

@@ -1,0 +1,2 @@
+-- What the proofs of the programs use.
+pub mod Buffers
