@@ -8,7 +8,7 @@ use Rattle.grid.specs.declared.NearAnswer.{NearAnswer}
 use Rattle.grid.specs.declared.NearAnswer.TheVariants as Near
 use Rattle.surfel.specs.Answers.{seen_number, seen_light}
 use Rattle.surfel.specs.declared.GatherAllAnswer.{GatherAllAnswer}
-use Rattle.surfel.specs.declared.GatherAllAnswer.TheVariants as All
+use Rattle.surfel.specs.declared.GatherAllAnswer.TheVariants as Many
 use Rattle.surfel.specs.declared.GatherAnswer.{GatherAnswer}
 use Rattle.surfel.specs.declared.GatherAnswer.TheVariants as One
 use Rattle.surfel.specs.declared.Reading.{Reading}
@@ -32,5 +32,5 @@ gather_left (One.Refused number) held = (number, held)
 gather_left (One.Done r) held = (0, reading_left r)
 
 abbrev pub gather_all_left : GatherAllAnswer → ℕ
-gather_all_left (All.Refused number) = number
-gather_all_left All.Done = 0
+gather_all_left (Many.Refused number) = number
+gather_all_left Many.Done = 0

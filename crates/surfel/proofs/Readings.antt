@@ -22,7 +22,7 @@ use Rattle.accept.proofs.Decimals.{nearest_to}
 use Rattle.grid.specs.Lent.{Grid}
 use Rattle.grid.specs.Visiting.{visited}
 use Rattle.surfel.specs.declared.GatherAllAnswer.{GatherAllAnswer}
-use Rattle.surfel.specs.declared.GatherAllAnswer.TheVariants as All
+use Rattle.surfel.specs.declared.GatherAllAnswer.TheVariants as Many
 use Rattle.surfel.specs.declared.GatherAnswer.TheVariants as One
 use Rattle.surfel.specs.declared.Probe.{Probe}
 use Rattle.surfel.specs.declared.Reading.{Reading}
@@ -107,7 +107,7 @@ also_accepted g s radius few lent floats also e h =
 
 -- an answer that is done was not refused
 done_by : (number : ℕ) (b : Bool) (x y : List ℕ × List Float) → eqb number 0 ≡ b
-    → (cond {A = GatherAllAnswer × List ℕ × List Float} b (All.Done, x.0, x.1) (All.Refused number, y.0, y.1)).0 ≡ All.Done → number ≡ 0
+    → (cond {A = GatherAllAnswer × List ℕ × List Float} b (Many.Done, x.0, x.1) (Many.Refused number, y.0, y.1)).0 ≡ Many.Done → number ≡ 0
 done_by number true x y e h = eqb-true number 0 e
 done_by number false x y e h = absurd (let z : ◌≡◌ {A = ℕ} 0 1 = cc in omega arith)
 
@@ -123,23 +123,23 @@ module _ (g : Grid) (s : Surfels) (q : Probes) (seen : List ℕ) (light : List F
   floats = coordinates q.p q.count && coordinates q.normals q.count
 
   -- readings that are done were not refused
-  zero_number : (gather_all_answer g s q seen light).0 ≡ All.Done → refusal g s q.radius few lent floats ≡ 0
+  zero_number : (gather_all_answer g s q seen light).0 ≡ Many.Done → refusal g s q.radius few lent floats ≡ 0
   unfolding gather_all_answer
   zero_number e = done_by (refusal g s q.radius few lent floats) _ (filled (λ i. seen_number (reading_at g s q i)) q.count seen, written (λ i. seen_light (reading_at g s q i)) q.count light) (seen, light) refl e
 
   -- what is left where the readings are done
-  pub all_done : (gather_all_answer g s q seen light).0 ≡ All.Done
-      → gather_all_answer g s q seen light ≡ (All.Done, filled (λ i. seen_number (reading_at g s q i)) q.count seen, written (λ i. seen_light (reading_at g s q i)) q.count light)
+  pub all_done : (gather_all_answer g s q seen light).0 ≡ Many.Done
+      → gather_all_answer g s q seen light ≡ (Many.Done, filled (λ i. seen_number (reading_at g s q i)) q.count seen, written (λ i. seen_light (reading_at g s q i)) q.count light)
   unfolding gather_all_answer
   all_done e = rw (zero_number e)
 
   -- readings that are refused leave the slices as they were
   pub all_refused : (all_refusal g s q (length seen) (length light) ≡ 0 → ⊥)
-      → gather_all_answer g s q seen light ≡ (All.Refused (all_refusal g s q (length seen) (length light)), seen, light)
+      → gather_all_answer g s q seen light ≡ (Many.Refused (all_refusal g s q (length seen) (length light)), seen, light)
   unfolding gather_all_answer
   all_refused h = rw (ne_eqb (all_refusal g s q (length seen) (length light)) 0 h)
 
-  module _ (e : (gather_all_answer g s q seen light).0 ≡ All.Done) (i : ℕ) (h : i < q.count) where
+  module _ (e : (gather_all_answer g s q seen light).0 ≡ Many.Done) (i : ℕ) (h : i < q.count) where
     -- what is seen of probe i is what the reading there sees
     pub seen_at : get_or (gather_all_answer g s q seen light).1 i 0 ≡ seen_number (reading_at g s q i)
     seen_at = rw (all_done e) (at_filled (λ i. seen_number (reading_at g s q i)) q.count i seen 0 h)

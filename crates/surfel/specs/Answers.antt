@@ -7,7 +7,7 @@ use Rattle.accept.specs.Ranges.{point}
 use Rattle.accept.specs.Refusal.{answered}
 use Rattle.grid.specs.Lent.{Grid}
 use Rattle.surfel.specs.declared.GatherAllAnswer.{GatherAllAnswer}
-use Rattle.surfel.specs.declared.GatherAllAnswer.TheVariants as All
+use Rattle.surfel.specs.declared.GatherAllAnswer.TheVariants as Many
 use Rattle.surfel.specs.declared.GatherAnswer.{GatherAnswer}
 use Rattle.surfel.specs.declared.GatherAnswer.TheVariants as One
 use Rattle.surfel.specs.declared.Reading.{Reading}
@@ -44,5 +44,5 @@ all_light g s q light = written (λ i. seen_light (reading_at g s q i)) q.count 
 -- the readings at many points: the answer, what is seen, and the light
 unfoldable pub gather_all_answer : Grid → Surfels → Probes → List ℕ → List Float → GatherAllAnswer × List ℕ × List Float
 gather_all_answer g s q seen light =
-    answered (λ number. (All.Refused number, seen, light)) (All.Done, all_seen g s q seen, all_light g s q light)
+    answered (λ number. (Many.Refused number, seen, light)) (Many.Done, all_seen g s q seen, all_light g s q light)
     (all_refusal g s q (length seen) (length light))

@@ -1,0 +1,7 @@
+-- `interflect::surfels::interflect_gather_all` meets its contract. It tells what the entry answers, and each slice keeps its length. Assumes nothing.
+use borrow.Author.Rules.{rules}
+use Rattle.interflect.proofs.surfels.interflect_gather_all.Goals as goal
+
+pub returns : goal.returns
+returns c =
+    rw (c.readings_number.ensures, ← c.gather_all-answer.ensures)
