@@ -1,5 +1,5 @@
 // The C interface: every entry under its name with the prefix `interflect_`, over numbers, slices and
-// `&mut` to a number. `rt staticlib interflect` makes one library of it.
+// `&mut` to a number. `rt lib` in this folder makes one library of it.
 //
 // Each entry returns 0, or the number of the refusal. No function here asks anything of its caller.
 #![tactic(auto)]

@@ -1,5 +1,4 @@
 -- `interflect::scenes::interflect_dist_mat` meets its contract. It tells what the entry answers. Assumes nothing.
-use borrow.Author.Rules.{rules}
 use Rattle.outs.specs.Scenes.{dist_left}
 use Rattle.interflect.proofs.Told.{told}
 use Rattle.interflect.proofs.scenes.interflect_dist_mat.Goals as goal

@@ -1,5 +1,4 @@
 -- `interflect::scenes::interflect_trace` meets its contract. It tells what the entry answers. Assumes nothing.
-use borrow.Author.Rules.{rules}
 use Rattle.outs.specs.Scenes.{trace_left}
 use Rattle.interflect.proofs.Told.{told}
 use Rattle.interflect.proofs.scenes.interflect_trace.Goals as goal

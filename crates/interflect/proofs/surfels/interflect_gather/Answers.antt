@@ -1,5 +1,4 @@
 -- `interflect::surfels::interflect_gather` meets its contract. It tells what the entry answers. Assumes nothing.
-use borrow.Author.Rules.{rules}
 use Rattle.outs.specs.Surfels.{gather_left}
 use Rattle.interflect.proofs.Told.{told}
 use Rattle.interflect.proofs.surfels.interflect_gather.Goals as goal

@@ -1,5 +1,4 @@
 -- `interflect::surfels::interflect_gather_all` meets its contract. It tells what the entry answers, and each slice keeps its length. Assumes nothing.
-use borrow.Author.Rules.{rules}
 use Rattle.interflect.proofs.surfels.interflect_gather_all.Goals as goal
 
 pub returns : goal.returns

@@ -1,5 +1,4 @@
 -- `interflect::surfels::interflect_grid_build` meets its contract. It tells what the entry answers, and each slice keeps its length. Assumes nothing.
-use borrow.Author.Rules.{rules}
 use Rattle.outs.specs.Surfels.{grid_left}
 use Rattle.interflect.proofs.Told.{told_with_two}
 use Rattle.interflect.proofs.surfels.interflect_grid_build.Goals as goal

@@ -1,5 +1,4 @@
 -- `interflect::surfels::interflect_near` meets its contract. It tells what the entry answers, and each slice keeps its length. Assumes nothing.
-use borrow.Author.Rules.{rules}
 use Rattle.outs.specs.Surfels.{near_left}
 use Rattle.interflect.proofs.Told.{told_with}
 use Rattle.interflect.proofs.surfels.interflect_near.Goals as goal
