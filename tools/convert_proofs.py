@@ -1,5 +1,14 @@
 #!/usr/bin/env python3
-"""convert.py CRATEDIR NAMES.json : turns proofs/F/Proof.antt (tie form) into Invariants.antt and Answers.antt."""
+"""Turns proof files of the older kit, proofs/F/Proof.antt, into Invariants.antt and Answers.antt, once.
+
+usage: python3 tools/convert_proofs.py CRATE_FOLDER NAMES.json [FUNCTION..]
+
+NAMES.json is what `rt check --generated FOLDER --old-names` writes in the crate's folder: of each function
+its goals, the places of the prover's walk and the steps at each, with their old and new names. A path as
+`c.before.before.f.ensures` becomes `c.f-x.ensures`; positional variables of an invariant become `l.x`;
+answers that a tactic finds alone are left out. It prints what it could not turn. The check decides; what
+it refuses is mended by hand. FUNCTION is named as below proofs/.
+"""
 import json,re,sys,os
 crate_dir,names_path=sys.argv[1:3]
 only=set(sys.argv[3:])
@@ -341,8 +350,7 @@ for root,ds,fs in os.walk(os.path.join(crate_dir,'proofs')):
     except Exception as e: print('FAIL',fpath,repr(e)); continue
     if files is None: print('SKIP',fpath,log); continue
     for n,t in files.items(): open(os.path.join(root,n),'w').write(t)
-    os.makedirs('/tmp/oldproofs/'+crate+'/'+fpath,exist_ok=True)
-    os.rename(os.path.join(root,'Proof.antt'),'/tmp/oldproofs/'+crate+'/'+fpath+'/Proof.antt')
+    os.remove(os.path.join(root,'Proof.antt'))
     done+=1
     if log: print('LOG',fpath,log)
 print('converted',done)
