@@ -5,9 +5,6 @@ use std::path::{Path, PathBuf};
 use std::process::Command;
 
 const TOOLCHAIN: &str = "/opt/rattle/bin/rt";
-/// The prover's allocator gives freed memory back to the system and soon takes it again. Told never to,
-/// a check takes about a fourteenth less time, and up to half as much memory more.
-const ALLOCATOR: (&str, &str) = ("MIMALLOC_PURGE_DELAY", "-1");
 /// How many of rt's last lines an error shows.
 const LINES_SHOWN: usize = 20;
 
@@ -33,7 +30,6 @@ impl Rt {
         let file = File::create(log).map_err(in_log)?;
         let status = Command::new(&self.0)
             .args(words)
-            .env(ALLOCATOR.0, ALLOCATOR.1)
             .current_dir(folder)
             .stdout(file.try_clone().map_err(in_log)?)
             .stderr(file)

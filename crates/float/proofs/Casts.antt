@@ -1,4 +1,5 @@
 -- A float truncated to a whole number, and rounded up to one. Assumes nothing.
+use Rattle.std.proofs.lemmas.Float.{T_from_true}
 use Rattle.std.proofs.Common.{◌≡◌, ℕ, zero, suc, ◌+◌, ◌-◌, ◌*◌, ◌/◌, ◌^◌, ◌<◌, ◌≤◌, min, true, false, T, ℤ, pos, neg_ℤ, sym, refl, ◌∙◌, subst, lt_of_lt_of_le, div-lt_iff_lt-mul, add-mul, lt_of_mul-lt-mul_right, mul-lt-mul_of_pos_right, le-div_iff_mul-le, mul-one, mul_right_comm, le_of_mul-le-mul_right, arith, leb→le, pow_pos, ltb-false, ltb-true, lt-ltb}
 use lib.Ieee.{Float, nan, inf, fin, binary32, up, down, lt, ne, of_int, to_signed, to_unsigned}
 use lib.Ieee.Compare.{nan_differs, differs_from_itself}
@@ -60,7 +61,7 @@ truncate_asks (fin false m e) h g = (
 
 pub truncate-nan : (x : Float) → ne x x ≡ true → 0 ≡ truncate x
 unfolding truncate to_signed
-truncate-nan x h = rw (differs_from_itself x (subst T (sym h) tt))
+truncate-nan x h = rw (differs_from_itself x (T_from_true _ h))
 
 pub truncate_high : (x : Float) → lt x end_f ≡ false → ne x x ≡ false → 2 ^ 31 - 1 ≡ truncate x
 unfolding lt to_signed truncate

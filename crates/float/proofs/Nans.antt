@@ -1,4 +1,5 @@
 -- Which floats are NaN, and which patterns are a NaN's. Assumes nothing.
+use Rattle.std.proofs.lemmas.Float.{T_from_true}
 use Rattle.std.proofs.Common.{◌≡◌, ℕ, ◌%◌, ◌^◌, ◌<◌, ◌≤◌, Bool, true, false, not, T, sym, ap, ◌∙◌, subst, le-ltb, lt-ltb}
 use lib.Ieee.{Float, nan, binary32, ne, is_nan, nan_bits, of_bits, to_bits}
 use lib.Ieee.Bits.{nan_bits_is, nan_bits_above}
@@ -9,7 +10,7 @@ use Rattle.float.proofs.Signs.{nan_test}
 
 -- NaN is the one float that differs from itself
 pub differs : (x : Float) → ne x x ≡ true → nan ≡ x
-differs x e = sym (differs_from_itself x (subst T (sym e) tt))
+differs x e = sym (differs_from_itself x (T_from_true _ e))
 
 pub no_nan : (x : Float) → ne x x ≡ false → T (not (is_nan x))
 no_nan x e = subst (λ (b : Bool). T (not b)) (sym e ∙ nan_test x) tt

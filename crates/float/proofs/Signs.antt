@@ -1,5 +1,6 @@
 -- What comparisons with 0, with an infinity and with itself say of a float. Assumes nothing.
-use Rattle.std.proofs.Common.{◌≡◌, ℕ, zero, suc, ◌+◌, ◌*◌, ◌^◌, ◌<◌, true, false, ◌&&◌, ◌||◌, T, eqb, ℤ, pos, negsuc, sym, refl, ◌∙◌, subst, true≢false, zero-lt-suc, mul-pos, zero-mul, arith, eqb→eq, ltb-false, ltb-true, eq-eqb}
+use Rattle.std.proofs.lemmas.Float.{T_from_true}
+use Rattle.std.proofs.Common.{◌≡◌, ℕ, zero, suc, ◌+◌, ◌*◌, ◌^◌, ◌<◌, true, false, ◌&&◌, ◌||◌, T, eqb, ℤ, pos, negsuc, sym, refl, ◌∙◌, true≢false, zero-lt-suc, mul-pos, zero-mul, arith, eqb→eq, ltb-false, ltb-true, eq-eqb}
 use mathlib.Core.Bool.{beq}
 use lib.Pow.{pow-lt}
 use lib.Ieee.{Float, nan, inf, fin, binary32, up, down, fits, is_nan, neg, div, lt, eq, ne}
@@ -87,7 +88,7 @@ abs-zero (inf s) F h = clash (sym h)
 abs-zero (fin s zero (pos zero)) F h = refl
 abs-zero (fin s zero (pos (suc k))) F h = absurd (omega (arith, eqb→eq (2 ^ suc k * 1) 1 F, pow-lt {i = 0} {j = suc k} (zero-lt-suc k)))
 abs-zero (fin s zero (negsuc k)) F h = absurd (omega (arith, eqb→eq (1 * 2 ^ suc k) 1 F, pow-lt {i = 0} {j = suc k} (zero-lt-suc k)))
-abs-zero (fin s (suc m) e) F h = absurd (omega (arith, some m e, eqb→eq (suc m * up e * 1) (0 * 1 * down e) (and_l (eqb (suc m * up e * 1) (0 * 1 * down e)) (beq s false || eqb (suc m * up e * 1) 0) (subst T (sym h) tt))))
+abs-zero (fin s (suc m) e) F h = absurd (omega (arith, some m e, eqb→eq (suc m * up e * 1) (0 * 1 * down e) (and_l (eqb (suc m * up e * 1) (0 * 1 * down e)) (beq s false || eqb (suc m * up e * 1) 0) (T_from_true _ h))))
 
 pub abs_rest : (x : Float) → lt x zero_f ≡ false → eq x zero_f ≡ false → x ≡ abs x
 unfolding lt eq abs

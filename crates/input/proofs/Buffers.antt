@@ -2,5 +2,5 @@
 use Rattle.std.proofs.Common.{◌≡◌, ℕ, sym, length}
 use lib.ListN.{replicate, length-replicate}
 
-pub filled : (n : ℕ) → n ≡ length {A = ℕ} (replicate n 0)
-filled n = sym (length-replicate n 0)
+pub length_zeros : (n : ℕ) → n ≡ length {A = ℕ} (replicate n 0)
+length_zeros n = sym (length-replicate n 0)

@@ -1,5 +1,5 @@
 -- The columns of records, what a reset leaves of them, and that columns tell their records. Assumes nothing.
-use mathlib.Core.Bool.{Bool, true, false, ◌&&◌, true≢false}
+use mathlib.Core.Bool.{Bool, true, false, ◌&&◌, and-eq-true_iff, true≢false}
 use mathlib.Core.List.{List, [], ◌∷◌, ◌++◌, append_assoc}
 use mathlib.Core.Path.{◌≡◌, refl, sym, ap, ◌∙◌}
 use Prim.Native.Nat.{ℕ, zero, suc, ◌+◌, ◌*◌, ◌<◌, ◌≤◌}
@@ -92,14 +92,9 @@ set_most zero n = omega arith
 set_most (suc number) n = omega arith
 
 -- where the loop's test holds a record is left to set, and where it fails none is
-both : (a b : Bool) → (a && b) ≡ true → (a ≡ true) × (b ≡ true)
-both true true e = (refl, refl)
-both true false e = absurd (true≢false (sym e))
-both false b e = absurd (true≢false (sym e))
-
 pub test_more : (number n i : ℕ) → (ltb i n && eqb number 0) ≡ true → i < set_count number n
-test_more zero n i e = ltb-true i n (both (ltb i n) (eqb zero 0) e).0
-test_more (suc number) n i e = absurd (no (eqb-true (suc number) 0 (both (ltb i n) (eqb (suc number) 0) e).1))
+test_more zero n i e = ltb-true i n ((and-eq-true_iff (ltb i n) (eqb zero 0)).0 e).0
+test_more (suc number) n i e = absurd (no (eqb-true (suc number) 0 ((and-eq-true_iff (ltb i n) (eqb (suc number) 0)).0 e).1))
   where
     no : suc number ≡ 0 → ⊥
     no h = omega arith

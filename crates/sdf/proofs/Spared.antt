@@ -1,6 +1,7 @@
 -- What `far` promises of the distance: where it is true, best is above 0 and no more than the distance. So the root is spared where a shape cannot be the nearest.
 -- A float u is at hand whose rounded square is below the square S. Rounding keeps the order and S is its own rounding, so u squared is no more than S, exactly.
 -- So the float nearest to the root of S is no less than u, and less r it is no less than u less r, which is no less than best. Assumes nothing.
+use Rattle.std.proofs.lemmas.Float.{T_from_true}
 use mathlib.Core.Path.{◌≡◌, refl, sym, ap, ◌∙◌, subst}
 use mathlib.Core.Logic.{inl, inr}
 use mathlib.Core.Bool.{Bool, true, false, ◌&&◌, ◌||◌, beq, cond, true≢false, false≢true}
@@ -33,7 +34,7 @@ use Rattle.sdf.specs.Beyond.{margin, bound, clears, beyond, far_sphere, far_box,
 -- ---- tests and the facts that they test
 
 yes : {b : Bool} → b ≡ true → T b
-yes e = subst T (sym e) tt
+yes e = T_from_true _ e
 
 reached : (a b : ℕ) → T (ltb a b || (eqb a b && true)) → a ≤ b
 reached a b = go (ltb a b) (eqb a b) (ltb→lt a b) (eqb→eq a b)

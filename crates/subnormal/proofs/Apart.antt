@@ -1,7 +1,7 @@
 -- The parts of a positive float: their bounds, and that they give its value. Assumes nothing.
 use mathlib.Core.Path.{◌≡◌, refl, sym, ap, ◌∙◌, subst}
 use mathlib.Core.Logic.{inl, inr}
-use mathlib.Core.Bool.{Bool, true, false, not, ◌&&◌, cond, true≢false}
+use mathlib.Core.Bool.{Bool, true, false, not, cond, true≢false}
 use Prim.Native.Nat.{ℕ, suc, ◌+◌, ◌-◌, ◌*◌, ◌/◌, ◌%◌, ◌^◌, ◌≤◌, ◌<◌}
 use native.Mathlib.Nat.{le_trans, le_of_eq, lt_of_lt_of_le, lt_of_not-le, not-le_of_lt, mul-pos, two-pow-succ}
 use native.Mathlib.Omega.{arith}
@@ -92,12 +92,6 @@ value_of b u = elim (here_or_on b (2 ^ 23)) [ inl l ↦ under l | inr g ↦ over
         same = omega arith
 
 -- ---- what is above 0
-
--- where both hold
-pub both : (a b : Bool) → (a && b) ≡ true → (a ≡ true) × (b ≡ true)
-both true true e = (refl, refl)
-both true false e = absurd (true≢false (sym e))
-both false b e = absurd (true≢false (sym e))
 
 pub no_nan : (x : Float) → lt 0f x ≡ true → T (not (is_nan x))
 unfolding lt is_nan of_bits

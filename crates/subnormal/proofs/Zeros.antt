@@ -1,4 +1,5 @@
 -- A zero times a positive finite float is that zero. Assumes nothing.
+use Rattle.std.proofs.lemmas.Float.{T_from_true}
 use mathlib.Core.Path.{◌≡◌, refl, sym, ap, ◌∙◌, subst}
 use mathlib.Core.Bool.{Bool, true, false, ◌&&◌, ◌||◌, beq, true≢false}
 use Prim.Native.Nat.{ℕ, zero, suc, ◌*◌, ◌^◌, ◌<◌}
@@ -37,7 +38,7 @@ zero_form nan F e = absurd (true≢false (sym e))
 zero_form (inf s) F e = absurd (true≢false (sym e))
 zero_form (fin t zero d) F e = (t, ap (λ (i : ℤ). fin t 0 i) (flat d F))
 zero_form (fin t (suc n) d) F e =
-    absurd (some n d (eqb→eq (suc n * up d * 1) (0 * 1 * down d) (and_l (eqb (suc n * up d * 1) (0 * 1 * down d)) (beq t false || eqb (suc n * up d * 1) 0) (subst T (sym e) tt))))
+    absurd (some n d (eqb→eq (suc n * up d * 1) (0 * 1 * down d) (and_l (eqb (suc n * up d * 1) (0 * 1 * down d)) (beq t false || eqb (suc n * up d * 1) 0) (T_from_true _ e))))
 
 -- ---- what is above 0 and below 1 is finite and has no sign
 

@@ -1,4 +1,5 @@
 -- `float::root::sqrt` meets its contract. By its cases, and for a positive finite number by that of `positive`. Assumes nothing.
+use Rattle.std.proofs.lemmas.Float.{T_from_true}
 use Rattle.std.proofs.Common.{◌≡◌, T, sym, ap, ◌∙◌, subst, arith}
 use lib.Ieee.{Float, binary32, fits}
 use lib.Ieee.Bits.{of_bits-to_bits}
@@ -15,7 +16,7 @@ both x r F e = record { value = e; nearest = λ p. subst (NearestRoot x) (sym e)
 
 pub returns-then-x : goal.returns-then-x
 returns-then-x c =
-    both _ _ (subst T (sym c.well_formed.0.1) tt) (of_nan c.args.x c.if-x.true)
+    both _ _ (T_from_true _ c.well_formed.0.1) (of_nan c.args.x c.if-x.true)
 
 pub float_to_bits-b : goal.float_to_bits-b
 float_to_bits-b c =
@@ -23,19 +24,19 @@ float_to_bits-b c =
 
 pub returns-then-b-eq0 : goal.returns-then-b-eq0
 returns-then-b-eq0 c =
-    both _ _ (subst T (sym c.well_formed.0.1) tt) (of_zero c.args.x (subst T (sym c.well_formed.0.1) tt) c.if-b-eq0.true)
+    both _ _ (T_from_true _ c.well_formed.0.1) (of_zero c.args.x (T_from_true _ c.well_formed.0.1) c.if-b-eq0.true)
 
 pub returns-then-b-ne0 : goal.returns-then-b-ne0
 returns-then-b-ne0 c =
-    both _ _ (subst T (sym c.well_formed.0.1) tt) (negative c.args.x _ (subst T (sym c.well_formed.0.1) tt) c.if-b-eq0.false c.if-b-ne0.true c.nan.ensures)
+    both _ _ (T_from_true _ c.well_formed.0.1) (negative c.args.x _ (T_from_true _ c.well_formed.0.1) c.if-b-eq0.false c.if-b-ne0.true c.nan.ensures)
 
 pub returns-then-b-eq2139095040 : goal.returns-then-b-eq2139095040
 returns-then-b-eq2139095040 c =
-    both _ _ (subst T (sym c.well_formed.0.1) tt) (of_inf c.args.x (subst T (sym c.well_formed.0.1) tt) c.if-b-eq2139095040.true)
+    both _ _ (T_from_true _ c.well_formed.0.1) (of_inf c.args.x (T_from_true _ c.well_formed.0.1) c.if-b-eq2139095040.true)
 
 pub positive-requires : goal.positive-requires
 positive-requires c =
-    is_positive c.args.x (subst T (sym c.well_formed.0.1) tt) (no_nan c.args.x c.if-x.false) c.if-b-eq0.false c.if-b-ne0.false c.if-b-eq2139095040.false
+    is_positive c.args.x (T_from_true _ c.well_formed.0.1) (no_nan c.args.x c.if-x.false) c.if-b-eq0.false c.if-b-ne0.false c.if-b-eq2139095040.false
 
 pub float_from_bits-result : goal.float_from_bits-result
 float_from_bits-result c =
@@ -43,4 +44,4 @@ float_from_bits-result c =
 
 pub returns : goal.returns
 returns c =
-    both _ _ (subst T (sym c.well_formed.0.1) tt) (c.positive.ensures.1 ∙ ap (λ (y : Float). square_root y) (of_bits-to_bits binary32 c.args.x (subst T (sym c.well_formed.0.1) tt)))
+    both _ _ (T_from_true _ c.well_formed.0.1) (c.positive.ensures.1 ∙ ap (λ (y : Float). square_root y) (of_bits-to_bits binary32 c.args.x (T_from_true _ c.well_formed.0.1)))

@@ -1,5 +1,5 @@
 -- `float::sign::abs` meets its contract. A number is below 0, or a zero, or has no sign. Assumes nothing.
-use Rattle.std.proofs.Common.{T, sym, subst}
+use Rattle.std.proofs.lemmas.Float.{T_from_true}
 use lib.Ieee.{of_bits}
 use Rattle.float.proofs.Signs.{abs_below, abs-zero, abs_rest}
 use Rattle.float.proofs.sign.abs.Goals as goal
@@ -12,7 +12,7 @@ returns-then-x c =
 pub returns-then-x-2 : goal.returns-then-x-2
 unfolding of_bits
 returns-then-x-2 c =
-    abs-zero _ (subst T (sym c.well_formed.0.1) tt) c.if-x-2.true
+    abs-zero _ (T_from_true _ c.well_formed.0.1) c.if-x-2.true
 
 pub returns-else-x-2 : goal.returns-else-x-2
 unfolding of_bits

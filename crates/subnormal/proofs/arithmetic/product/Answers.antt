@@ -1,4 +1,6 @@
 -- `subnormal::arithmetic::product` meets its contract. Assumes nothing.
+use mathlib.Core.Bool.{and-eq-true_iff}
+use Rattle.std.proofs.lemmas.Float.{T_from_true}
 use mathlib.Core.Path.{◌≡◌, sym, ap, ◌∙◌, subst}
 use mathlib.Core.Bool.{true}
 use Prim.Native.Nat.{ℕ, ◌+◌, ◌-◌, ◌*◌, ◌^◌, ◌≤◌, ◌<◌}
@@ -10,7 +12,7 @@ use Rattle.float.specs.Arithmetic.{0f, ◌*f◌}
 use Rattle.float.proofs.Nans.{is_number}
 use Rattle.subnormal.specs.Parts.{significand_of, exponent_of}
 use Rattle.subnormal.specs.Packing.{pattern}
-use Rattle.subnormal.proofs.Apart.{Parts, parts_of, both}
+use Rattle.subnormal.proofs.Apart.{Parts, parts_of}
 use Rattle.subnormal.proofs.Products.{p-lt, product_is}
 use Rattle.subnormal.proofs.arithmetic.product.Goals as goal
 
@@ -37,7 +39,7 @@ module _ (x y : Float) (F : T (fits binary32 x)) (G : T (fits binary32 y)) (p : 
 
 pub overflow_add-e : goal.overflow_add-e
 overflow_add-e c =
-    let e = c.exponent.ensures in let f = c.exponent-2.ensures in let g = to_bits-lt binary32 c.args.x (subst T (sym c.well_formed.0.1) tt) in let h = to_bits-lt binary32 c.args.y (subst T (sym c.well_formed.1.0.1) tt) in omega arith
+    let e = c.exponent.ensures in let f = c.exponent-2.ensures in let g = to_bits-lt binary32 c.args.x (T_from_true _ c.well_formed.0.1) in let h = to_bits-lt binary32 c.args.y (T_from_true _ c.well_formed.1.0.1) in omega arith
 
 pub float_from_bits-result : goal.float_from_bits-result
 float_from_bits-result c =
@@ -45,7 +47,7 @@ float_from_bits-result c =
 
 pub returns : goal.returns
 returns c =
-    let t = both (lt 0f c.args.x) (lt 0f c.args.y) c.if-not-x-y.false in
+    let t = (and-eq-true_iff (lt 0f c.args.x) (lt 0f c.args.y)).0 c.if-not-x-y.false in
     let small : exponent_of (to_bits binary32 c.args.x) + exponent_of (to_bits binary32 c.args.y) ≤ 150 = omega (arith, c.exponent.ensures, c.exponent-2.ensures, c.if-e-gt150.false) in
     ap (λ (i : ℕ). of_bits binary32 i) c.packed.ensures.value
-    ∙ made c.args.x c.args.y (subst T (sym c.well_formed.0.1) tt) (subst T (sym c.well_formed.1.0.1) tt) t.0 t.1 small c.exponent.result c.exponent-2.result c.significand.result c.significand-2.result c.exponent.ensures c.exponent-2.ensures c.significand.ensures c.significand-2.ensures
+    ∙ made c.args.x c.args.y (T_from_true _ c.well_formed.0.1) (T_from_true _ c.well_formed.1.0.1) t.0 t.1 small c.exponent.result c.exponent-2.result c.significand.result c.significand-2.result c.exponent.ensures c.exponent-2.ensures c.significand.ensures c.significand-2.ensures

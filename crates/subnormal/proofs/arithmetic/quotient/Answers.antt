@@ -1,4 +1,6 @@
 -- `subnormal::arithmetic::quotient` meets its contract. Assumes nothing.
+use mathlib.Core.Bool.{and-eq-true_iff}
+use Rattle.std.proofs.lemmas.Float.{T_from_true}
 use mathlib.Core.Path.{◌≡◌, refl, sym, ap, ◌∙◌, subst}
 use mathlib.Core.Bool.{Bool, true, false, ◌||◌, true≢false}
 use Prim.Native.Nat.{ℕ, ◌+◌, ◌-◌, ◌*◌, ◌%◌, ◌^◌, ◌≤◌, ◌<◌, max}
@@ -13,7 +15,7 @@ use Rattle.float.specs.Arithmetic.{0f, ◌/f◌}
 use Rattle.float.proofs.Nans.{is_number}
 use Rattle.subnormal.specs.Parts.{significand_of, exponent_of}
 use Rattle.subnormal.specs.Packing.{halves, pattern}
-use Rattle.subnormal.proofs.Apart.{Parts, parts_of, both, from, significand_lt, zeros_ge}
+use Rattle.subnormal.proofs.Apart.{Parts, parts_of, from, significand_lt, zeros_ge}
 use Rattle.subnormal.proofs.Quotients.{n-lt, h_lt, h_long, quotient_is}
 use Rattle.subnormal.proofs.arithmetic.quotient.Goals as goal
 
@@ -98,23 +100,23 @@ overflow_sub-up c =
 
 pub overflow_add-from : goal.overflow_add-from
 overflow_add-from c =
-    let e = c.exponent-from.ensures in let l = to_bits-lt binary32 c.args.x (subst T (sym c.well_formed.0.1) tt) in omega arith
+    let e = c.exponent-from.ensures in let l = to_bits-lt binary32 c.args.x (T_from_true _ c.well_formed.0.1) in omega arith
 
 pub overflow_add-to : goal.overflow_add-to
 overflow_add-to c =
-    let e = c.exponent.ensures in let l = to_bits-lt binary32 c.args.y (subst T (sym c.well_formed.1.0.1) tt) in let z = leading_le 64 c.significand-m.result in omega arith
+    let e = c.exponent.ensures in let l = to_bits-lt binary32 c.args.y (T_from_true _ c.well_formed.1.0.1) in let z = leading_le 64 c.significand-m.result in omega arith
 
 pub divided-requires-clause-n_bound : goal.divided-requires-clause-n_bound
 divided-requires-clause-n_bound c =
-    let t = both (lt 0f c.args.x) (lt 0f c.args.y) c.if-not-x-y.false in
+    let t = (and-eq-true_iff (lt 0f c.args.x) (lt 0f c.args.y)).0 c.if-not-x-y.false in
     let u = none_of _ _ _ c.if-b-to.false in
-    n-bound c.args.x c.args.y (subst T (sym c.well_formed.0.1) tt) (subst T (sym c.well_formed.1.0.1) tt) t.0 t.1 (ltb-false _ _ u.0) (ltb-false _ _ u.1) (ordered _ _ _ _ _ _ c.significand-m.ensures c.exponent-from.ensures c.exponent.ensures (ltb-false _ _ u.2)) c.significand-m.result c.significand-m.ensures
+    n-bound c.args.x c.args.y (T_from_true _ c.well_formed.0.1) (T_from_true _ c.well_formed.1.0.1) t.0 t.1 (ltb-false _ _ u.0) (ltb-false _ _ u.1) (ordered _ _ _ _ _ _ c.significand-m.ensures c.exponent-from.ensures c.exponent.ensures (ltb-false _ _ u.2)) c.significand-m.result c.significand-m.ensures
 
 pub packed-requires-clause-bound : goal.packed-requires-clause-bound
 packed-requires-clause-bound c =
-    let t = both (lt 0f c.args.x) (lt 0f c.args.y) c.if-not-x-y.false in
+    let t = (and-eq-true_iff (lt 0f c.args.x) (lt 0f c.args.y)).0 c.if-not-x-y.false in
     let u = none_of _ _ _ c.if-b-to.false in
-    many c.args.x c.args.y (subst T (sym c.well_formed.0.1) tt) (subst T (sym c.well_formed.1.0.1) tt) t.0 t.1 (ltb-false _ _ u.0) (ltb-false _ _ u.1) (ordered _ _ _ _ _ _ c.significand-m.ensures c.exponent-from.ensures c.exponent.ensures (ltb-false _ _ u.2)) c.significand-m.result c.significand.result c.divided.result _ c.significand-m.ensures c.significand.ensures c.divided.ensures
+    many c.args.x c.args.y (T_from_true _ c.well_formed.0.1) (T_from_true _ c.well_formed.1.0.1) t.0 t.1 (ltb-false _ _ u.0) (ltb-false _ _ u.1) (ordered _ _ _ _ _ _ c.significand-m.ensures c.exponent-from.ensures c.exponent.ensures (ltb-false _ _ u.2)) c.significand-m.result c.significand.result c.divided.result _ c.significand-m.ensures c.significand.ensures c.divided.ensures
 
 pub float_from_bits-result : goal.float_from_bits-result
 float_from_bits-result c =
@@ -122,7 +124,7 @@ float_from_bits-result c =
 
 pub returns : goal.returns
 returns c =
-    let t = both (lt 0f c.args.x) (lt 0f c.args.y) c.if-not-x-y.false in
+    let t = (and-eq-true_iff (lt 0f c.args.x) (lt 0f c.args.y)).0 c.if-not-x-y.false in
     let u = none_of _ _ _ c.if-b-to.false in
     ap (λ (i : ℕ). of_bits binary32 i) c.packed.ensures.value
-    ∙ made c.args.x c.args.y (subst T (sym c.well_formed.0.1) tt) (subst T (sym c.well_formed.1.0.1) tt) t.0 t.1 (ltb-false _ _ u.0) (ltb-false _ _ u.1) (ordered _ _ _ _ _ _ c.significand-m.ensures c.exponent-from.ensures c.exponent.ensures (ltb-false _ _ u.2)) c.significand-m.result c.significand.result c.divided.result c.exponent-from.result c.exponent.result c.significand-m.ensures c.significand.ensures c.divided.ensures c.exponent-from.ensures c.exponent.ensures
+    ∙ made c.args.x c.args.y (T_from_true _ c.well_formed.0.1) (T_from_true _ c.well_formed.1.0.1) t.0 t.1 (ltb-false _ _ u.0) (ltb-false _ _ u.1) (ordered _ _ _ _ _ _ c.significand-m.ensures c.exponent-from.ensures c.exponent.ensures (ltb-false _ _ u.2)) c.significand-m.result c.significand.result c.divided.result c.exponent-from.result c.exponent.result c.significand-m.ensures c.significand.ensures c.divided.ensures c.exponent-from.ensures c.exponent.ensures
