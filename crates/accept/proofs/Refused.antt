@@ -1,96 +1,95 @@
--- What the number of the first test that failed says of the tests. Assumes nothing.
+-- What the first test that failed says of the tests. Assumes nothing.
 use mathlib.Core.Bool.{Bool, true, false, cond}
 use mathlib.Core.List.{List, [], ◌∷◌, ◌++◌}
 use mathlib.Core.Logic.{◌⊎◌, inl, inr}
-use mathlib.Core.Path.{◌≡◌, refl, ap}
-use Prim.Native.Nat.{ℕ, zero, suc, ◌≤◌}
+use mathlib.Core.Path.{◌≡◌, refl, sym, ap}
+use Prim.Native.Nat.{ℕ, ◌≤◌}
 use native.Mathlib.Omega.{arith}
-use Rattle.accept.specs.Refusal.{unless, first_failed}
-
--- Nested calls of `unless`, from the innermost outward: after the last test stands 0, and each call puts one test in front.
-pub first_failed_none : 0 ≡ first_failed []
-unfolding first_failed
-first_failed_none = refl
-
-pub first_failed_more : (number : ℕ) (l : List (ℕ × Bool)) {t passed : Bool} {rest r : ℕ}
-    → t ≡ passed → rest ≡ first_failed l → r ≡ unless t number rest → r ≡ first_failed ((number, passed) ∷ l)
-unfolding first_failed
-first_failed_more number l p q e = rw (e, p, q)
-
--- no test has the number 0, which says that all passed
-abbrev pub Numbered : List (ℕ × Bool) → Type 0
-Numbered [] = Unit
-Numbered ((zero, passed) ∷ l) = ⊥
-Numbered ((suc k, passed) ∷ l) = Numbered l
+use Rattle.std.specs.Prelude.{Ok, Err, Result}
+use Rattle.accept.specs.Refusal.{number_of, checked, refusal_number}
+use Rattle.accept.specs.declared.refusal.Refusal.{Refusal}
 
 -- each test passed
-abbrev pub Passed : List (ℕ × Bool) → Type 0
-Passed [] = Unit
-Passed ((number, passed) ∷ l) = (passed ≡ true) × Passed l
+abbrev pub AllPassed : List (Refusal × Bool) → Type 0
+AllPassed [] = Unit
+AllPassed ((refusal, passed) ∷ l) = (passed ≡ true) × AllPassed l
 
-pub none_failed : (l : List (ℕ × Bool)) → Numbered l → first_failed l ≡ 0 → Passed l
-unfolding first_failed
-none_failed [] w e = tt
-none_failed ((zero, passed) ∷ l) w e = absurd w
-none_failed ((suc k, true) ∷ l) w e = (refl, none_failed l w e)
-none_failed ((suc k, false) ∷ l) w e = absurd (omega arith)
+err_ok : {r : Refusal} {u : Unit} → ◌≡◌ {A = Result Unit Refusal} (Err r) (Ok u) → ⊥
+err_ok {r = r} e =
+    let z : refusal_number (Err r) ≡ 0 = ap refusal_number e in
+    absurd (number_above r z)
+  where
+    number_above : (r : Refusal) → number_of r ≡ 0 → ⊥
+    number_above r e = absurd (grind arith)
 
--- where the tests before it passed, a test that failed gives its number
-pub first_failed_at : (l m : List (ℕ × Bool)) (number : ℕ) → Passed l → first_failed (l ++ ((number, false) ∷ m)) ≡ number
-unfolding first_failed
-first_failed_at [] m number p = refl
-first_failed_at ((k, passed) ∷ l) m number p = rw p.0 (first_failed_at l m number p.1)
+-- a test that did not refuse passed
+pub require_passed : (t : Bool) (r : Refusal) {u : Unit} → ◌≡◌ {A = Result Unit Refusal} (Ok u) (cond t (Ok tt) (Err r)) → t ≡ true
+require_passed true r e = refl
+require_passed false r e = absurd (err_ok (sym e))
 
--- tests that passed leave the number to those after them, and one that failed comes before those
-pub first_failed_past : (l m : List (ℕ × Bool)) → Passed l → first_failed (l ++ m) ≡ first_failed m
-unfolding first_failed
-first_failed_past [] m p = refl
-first_failed_past ((k, passed) ∷ l) m p = rw p.0 (first_failed_past l m p.1)
+pub none_refused : (l : List (Refusal × Bool)) → checked l ≡ Ok tt → AllPassed l
+unfolding checked
+none_refused [] e = tt
+none_refused ((refusal, true) ∷ l) e = (refl, none_refused l e)
+none_refused ((refusal, false) ∷ l) e = absurd (err_ok e)
 
-pub first_failed_before : (l m : List (ℕ × Bool)) → (first_failed l ≡ 0 → ⊥) → first_failed (l ++ m) ≡ first_failed l
-unfolding first_failed
-first_failed_before [] m h = absurd (h refl)
-first_failed_before ((k, true) ∷ l) m h = first_failed_before l m h
-first_failed_before ((k, false) ∷ l) m h = refl
+-- where the tests before it passed, a test that failed refuses
+pub checked_at : (l m : List (Refusal × Bool)) (refusal : Refusal) → AllPassed l → checked (l ++ ((refusal, false) ∷ m)) ≡ Err refusal
+unfolding checked
+checked_at [] m refusal p = refl
+checked_at ((k, passed) ∷ l) m refusal p = rw p.0 (checked_at l m refusal p.1)
+
+-- tests that passed leave it to those after them, and one that failed comes before those
+pub checked_past : (l m : List (Refusal × Bool)) → AllPassed l → checked (l ++ m) ≡ checked m
+unfolding checked
+checked_past [] m p = refl
+checked_past ((k, passed) ∷ l) m p = rw p.0 (checked_past l m p.1)
+
+pub checked_before : (l m : List (Refusal × Bool)) (refusal : Refusal) → checked l ≡ Err refusal → checked (l ++ m) ≡ Err refusal
+unfolding checked
+checked_before [] m r e = absurd (err_ok (sym e))
+checked_before ((k, true) ∷ l) m r e = checked_before l m r e
+checked_before ((k, false) ∷ l) m r e = e
 
 -- the numbers of the tests rise
-abbrev pub AllFrom : ℕ → List (ℕ × Bool) → Type 0
+abbrev pub AllFrom : ℕ → List (Refusal × Bool) → Type 0
 AllFrom k [] = Unit
-AllFrom k ((number, passed) ∷ l) = (k ≤ number) × AllFrom k l
+AllFrom k ((refusal, passed) ∷ l) = (k ≤ number_of refusal) × AllFrom k l
 
-abbrev pub Rising : List (ℕ × Bool) → Type 0
+abbrev pub Rising : List (Refusal × Bool) → Type 0
 Rising [] = Unit
-Rising ((number, passed) ∷ l) = AllFrom number l × Rising l
+Rising ((refusal, passed) ∷ l) = AllFrom (number_of refusal) l × Rising l
 
 -- a test with the number k failed
-abbrev pub Failed : ℕ → List (ℕ × Bool) → Type 0
+abbrev pub Failed : ℕ → List (Refusal × Bool) → Type 0
 Failed k [] = ⊥
-Failed k ((number, passed) ∷ l) = ((number ≡ k) × (passed ≡ false)) ⊎ Failed k l
+Failed k ((refusal, passed) ∷ l) = ((number_of refusal ≡ k) × (passed ≡ false)) ⊎ Failed k l
 
-all_from : (n k : ℕ) (l : List (ℕ × Bool)) → AllFrom n l → Failed k l → n ≤ k
+all_from : (n k : ℕ) (l : List (Refusal × Bool)) → AllFrom n l → Failed k l → n ≤ k
 all_from n k [] a f = absurd f
-all_from n k ((number, passed) ∷ l) a (inl f) = let h = a.0 in let e = f.0 in omega arith
-all_from n k ((number, passed) ∷ l) a (inr f) = all_from n k l a.1 f
+all_from n k ((refusal, passed) ∷ l) a (inl f) = let h = a.0 in let e = f.0 in omega arith
+all_from n k ((refusal, passed) ∷ l) a (inr f) = all_from n k l a.1 f
 
--- the number is 0, or that of a test that failed
-pub one_that_failed : (l : List (ℕ × Bool)) → (first_failed l ≡ 0) ⊎ Failed (first_failed l) l
-unfolding first_failed
+-- the number of what refuses a call is 0, or that of a test that failed
+pub one_that_failed : (l : List (Refusal × Bool)) → (refusal_number (checked l) ≡ 0) ⊎ Failed (refusal_number (checked l)) l
+unfolding checked
 one_that_failed [] = inl refl
-one_that_failed ((number, false) ∷ l) = inr (inl (refl, refl))
-one_that_failed ((number, true) ∷ l) = later (one_that_failed l)
+one_that_failed ((refusal, false) ∷ l) = inr (inl (refl, refl))
+one_that_failed ((refusal, true) ∷ l) = later (one_that_failed l)
   where
-    later : (first_failed l ≡ 0) ⊎ Failed (first_failed l) l → (first_failed l ≡ 0) ⊎ (((number ≡ first_failed l) × (true ≡ false)) ⊎ Failed (first_failed l) l)
+    later : (refusal_number (checked l) ≡ 0) ⊎ Failed (refusal_number (checked l)) l
+        → (refusal_number (checked l) ≡ 0) ⊎ (((number_of refusal ≡ refusal_number (checked l)) × (true ≡ false)) ⊎ Failed (refusal_number (checked l)) l)
     later (inl e) = inl e
     later (inr f) = inr (inr f)
 
--- where their numbers rise, it is not above that of any test that failed: so it is the lowest of them
-pub lowest : (l : List (ℕ × Bool)) → Rising l → (k : ℕ) → Failed k l → first_failed l ≤ k
-unfolding first_failed
+-- where the numbers of the tests rise, it is not above that of any test that failed: so it is the lowest of them
+pub lowest : (l : List (Refusal × Bool)) → Rising l → (k : ℕ) → Failed k l → refusal_number (checked l) ≤ k
+unfolding checked
 lowest [] r k f = absurd f
-lowest ((number, false) ∷ l) r k (inl f) = let e = f.0 in omega arith
-lowest ((number, false) ∷ l) r k (inr f) = all_from number k l r.0 f
-lowest ((number, true) ∷ l) r k (inl f) = absurd (true_false f.1)
+lowest ((refusal, false) ∷ l) r k (inl f) = let e = f.0 in omega arith
+lowest ((refusal, false) ∷ l) r k (inr f) = all_from (number_of refusal) k l r.0 f
+lowest ((refusal, true) ∷ l) r k (inl f) = absurd (true_false f.1)
   where
     true_false : true ≡ false → ⊥
     true_false e = let z : ◌≡◌ {A = ℕ} 0 1 = ap (λ (b : Bool). cond b 0 1) e in absurd (omega arith)
-lowest ((number, true) ∷ l) r k (inr f) = lowest l r.1 k f
+lowest ((refusal, true) ∷ l) r k (inr f) = lowest l r.1 k f

@@ -3,12 +3,14 @@
 #![tactic(auto)]
 
 pub mod limits;
+mod listed;
 mod ranges;
 mod refusal;
 mod tables;
 
+pub use listed::Listed;
 pub use ranges::{axis, bounds, coordinate, coordinates, floats_within, point, within};
-pub use refusal::unless;
+pub use refusal::{Refusal, refusal_number, require};
 pub use tables::{
-    at_most, holds, lesser, links_ascend, numbers_below, ranges_contiguous, starts_monotone, wide,
+    at_most, holds, links_ascend, numbers_below, ranges_contiguous, starts_monotone, wide,
 };

@@ -4,6 +4,7 @@ ghost use Rattle.float.specs.Column.{float_at};
 ghost use Rattle.accept.specs.Ranges.{within, all_within, floats_within, axis, coordinate, coordinates, point, bounds};
 
 use crate::limits::MAX_COORDINATE;
+use crate::listed::Listed;
 use crate::tables;
 use vector::Vec3;
 
@@ -16,10 +17,10 @@ pub fn within(x: f32, lo: f32, hi: f32) -> bool
 }
 
 // Whether s holds n entries of `each` floats, and each float of these entries is from lo to hi.
-pub fn floats_within(s: &[f32], n: usize, each: usize, lo: f32, hi: f32) -> bool
-    ensures { result ≡ floats_within s.now n each lo hi }
+pub fn floats_within<F: Listed<f32>>(s: F, n: usize, each: usize, lo: f32, hi: f32) -> bool
+    ensures { result ≡ floats_within (F.items s) n each lo hi }
 {
-    if tables::holds(s.len(), n, each) {
+    if tables::holds(s.count(), n, each) {
         all_within(s, n * each, lo, hi)
     } else {
         false
@@ -27,15 +28,15 @@ pub fn floats_within(s: &[f32], n: usize, each: usize, lo: f32, hi: f32) -> bool
 }
 
 // Whether each of the first n floats of s is from lo to hi.
-fn all_within(s: &[f32], n: usize, lo: f32, hi: f32) -> bool
-    requires { n ≤ length s.now }
-    ensures { result ≡ all_within (float_at s.now) n lo hi }
+fn all_within<F: Listed<f32>>(s: F, n: usize, lo: f32, hi: f32) -> bool
+    requires { n ≤ length (F.items s) }
+    ensures { result ≡ all_within (float_at (F.items s)) n lo hi }
 {
     let mut ok = true;
-    let mut k = 0;
-    while k < n {
-        ok = ok & ((lo <= s[k]) & (s[k] <= hi));
-        k += 1;
+    for k in 0..n {
+        let x = s.item(k);
+        let passed = within(x, lo, hi);
+        ok &= passed;
     }
     ok
 }
@@ -55,8 +56,8 @@ pub fn coordinate(x: f32) -> bool
 }
 
 // Whether s holds n vectors, each float of them a coordinate.
-pub fn coordinates(s: &[f32], n: usize) -> bool
-    ensures { result ≡ coordinates s.now n }
+pub fn coordinates<F: Listed<f32>>(s: F, n: usize) -> bool
+    ensures { result ≡ coordinates (F.items s) n }
 {
     floats_within(s, n, 3, -MAX_COORDINATE, MAX_COORDINATE)
 }

@@ -1,11 +1,49 @@
-// Which number a refused call returns.
-ghost use Rattle.std.specs.Prelude.{◌≡◌};
-ghost use Rattle.accept.specs.Refusal.{unless};
+// Why a call is refused.
+ghost use Rattle.std.specs.Prelude.{◌≡◌, cond, Ok, Err};
+ghost use Rattle.accept.specs.Refusal.{number_of, refusal_number};
 
-// The number where the test failed, and rest where it passed. Nested, the first test that failed
-// gives the number: unless(few, 2, unless(lent, 4, unless(ranged, 5, 0))).
-pub fn unless(passed: bool, number: u32, rest: u32) -> u32
-    ensures { result ≡ unless passed number rest }
+// Why a call is refused. Of several that apply, the first counts; C functions return its number.
+#[derive(Clone, Copy, Debug, PartialEq, Eq)]
+pub enum Refusal {
+    // A file is no room file.
+    File = 1,
+    // A count is over its limit.
+    Count = 2,
+    // Bounds, a cell, a radius, a resolution or a reach is out of its range.
+    Range = 3,
+    // A slice is shorter than its need, or lists that are reset are of unequal length.
+    Length = 4,
+    // A float of a table is out of its range.
+    Float = 5,
+    // A primitive's kind, or a part's base or range, fits no table.
+    Scene = 6,
+    // Starts, links, members or items do not fit together.
+    Numbers = 7,
+}
+
+impl From<Refusal> for u32 {
+    ghost from_gives = { λ r n. n ≡ number_of r };
+
+    // The refusal's number.
+    fn from(refusal: Refusal) -> u32 {
+        refusal as u32
+    }
+}
+
+// Nothing where the test passed, and the refusal where it failed. With `?`, the first test that
+// failed refuses.
+pub fn require(passed: bool, refusal: Refusal) -> Result<(), Refusal>
+    ensures { result ≡ cond passed (Ok tt) (Err refusal) }
 {
-    if passed { rest } else { number }
+    if passed { Ok(()) } else { Err(refusal) }
+}
+
+// The number of what refuses a call, 0 where nothing does.
+pub fn refusal_number(checked: Result<(), Refusal>) -> u32
+    ensures { result ≡ refusal_number checked }
+{
+    match checked {
+        Ok(()) => 0,
+        Err(refusal) => refusal as u32,
+    }
 }

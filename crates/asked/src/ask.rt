@@ -2,184 +2,93 @@
 // and the names that end in `_any` take any floats; the others take coordinates.
 use crate::words;
 use replay::Words;
-use scene::{
-    ClosureAnswer, DistAnswer, NormalAnswer, ShadowAnswer, TraceAnswer, marching, opening, shading,
-};
+use scene::{Ray, marching, opening, shading};
 use stored::Stored;
+use tables::Scene;
 use vector::Vec3;
 
 // The distance at p and the material there.
-pub fn dist_mat(s: Stored, p: Vec3) -> Words {
-    let kinds = s.kinds;
-    let lengths = s.lengths;
-    let planes = s.plane_parts;
-    let objects = s.object_parts;
-    let answer = scene::dist_mat(
-        s.prims, s.planes, s.objects, &kinds, &lengths, &planes, &objects, p,
-    );
-    match answer {
-        DistAnswer::Refused(number) => replay::refused(number),
-        DistAnswer::Done(done) => words::distance(done),
-    }
+pub fn dist_mat(s: &Stored, p: Vec3) -> Words {
+    words::distance(scene::dist_mat(&lent(s), p))
 }
 
 // The same at any point.
-pub fn dist_any(s: Stored, p: Vec3) -> Words {
-    let number = refusal(s);
-    if number != 0 {
-        return replay::refused(number);
-    }
-    let kinds = s.kinds;
-    let lengths = s.lengths;
-    let planes = s.plane_parts;
-    let objects = s.object_parts;
-    words::distance(field::dist_mat(
-        s.prims, s.planes, s.objects, &kinds, &lengths, &planes, &objects, p,
-    ))
+pub fn dist_any(s: &Stored, p: Vec3) -> Words {
+    let scene = lent(s);
+    words::distance(scene.check(true).map(|()| field::dist_mat(&scene, p)))
 }
 
 // The normal at p.
-pub fn normal(s: Stored, p: Vec3) -> Words {
-    let kinds = s.kinds;
-    let lengths = s.lengths;
-    let planes = s.plane_parts;
-    let objects = s.object_parts;
-    let answer = scene::normal(
-        s.prims, s.planes, s.objects, &kinds, &lengths, &planes, &objects, p,
-    );
-    match answer {
-        NormalAnswer::Refused(number) => replay::refused(number),
-        NormalAnswer::Done(done) => words::normal(done),
-    }
+pub fn normal(s: &Stored, p: Vec3) -> Words {
+    words::normal(scene::normal(&lent(s), p))
 }
 
 // The same at any point.
-pub fn normal_any(s: Stored, p: Vec3) -> Words {
-    let number = refusal(s);
-    if number != 0 {
-        return replay::refused(number);
-    }
-    let kinds = s.kinds;
-    let lengths = s.lengths;
-    let planes = s.plane_parts;
-    let objects = s.object_parts;
-    words::normal(field::normal(
-        s.prims, s.planes, s.objects, &kinds, &lengths, &planes, &objects, p,
-    ))
+pub fn normal_any(s: &Stored, p: Vec3) -> Words {
+    let scene = lent(s);
+    words::normal(scene.check(true).map(|()| field::normal(&scene, p)))
 }
 
 // The point of the surface that any p is moved to.
-pub fn project(s: Stored, p: Vec3, eps: f32, diag: f32) -> Words {
-    let number = refusal(s);
-    if number != 0 {
-        return replay::refused(number);
-    }
-    let kinds = s.kinds;
-    let lengths = s.lengths;
-    let planes = s.plane_parts;
-    let objects = s.object_parts;
-    words::projected(field::project(
-        s.prims, s.planes, s.objects, &kinds, &lengths, &planes, &objects, p, eps, diag,
-    ))
+pub fn project(s: &Stored, p: Vec3, eps: f32, diag: f32) -> Words {
+    let scene = lent(s);
+    words::projected(
+        scene
+            .check(true)
+            .map(|()| field::project(&scene, p, eps, diag)),
+    )
 }
 
 // What a ray meets.
-pub fn trace(s: Stored, ro: Vec3, rd: Vec3, tmin: f32, tmax: f32) -> Words {
-    let kinds = s.kinds;
-    let lengths = s.lengths;
-    let planes = s.plane_parts;
-    let objects = s.object_parts;
-    let answer = scene::trace(
-        s.prims, s.planes, s.objects, &kinds, &lengths, &planes, &objects, ro, rd, tmin, tmax,
-    );
-    match answer {
-        TraceAnswer::Refused(number) => replay::refused(number),
-        TraceAnswer::Done(done) => words::traced(done),
-    }
+pub fn trace(s: &Stored, ray: Ray) -> Words {
+    words::traced(scene::trace(&lent(s), ray))
 }
 
 // The same for any ray.
-pub fn trace_any(s: Stored, ro: Vec3, rd: Vec3, tmin: f32, tmax: f32) -> Words {
-    let number = refusal(s);
-    if number != 0 {
-        return replay::refused(number);
-    }
-    let kinds = s.kinds;
-    let lengths = s.lengths;
-    let planes = s.plane_parts;
-    let objects = s.object_parts;
-    words::traced(marching::trace(
-        s.prims, s.planes, s.objects, &kinds, &lengths, &planes, &objects, ro, rd, tmin, tmax,
-    ))
+pub fn trace_any(s: &Stored, ray: Ray) -> Words {
+    let scene = lent(s);
+    words::traced(scene.check(true).map(|()| marching::trace(&scene, ray)))
 }
 
 // How much of a light is seen.
-pub fn soft_shadow(s: Stored, ro: Vec3, rd: Vec3, tmin: f32, tmax: f32, k: f32) -> Words {
-    let kinds = s.kinds;
-    let lengths = s.lengths;
-    let planes = s.plane_parts;
-    let objects = s.object_parts;
-    let answer = scene::soft_shadow(
-        s.prims, s.planes, s.objects, &kinds, &lengths, &planes, &objects, ro, rd, tmin, tmax, k,
-    );
-    match answer {
-        ShadowAnswer::Refused(number) => replay::refused(number),
-        ShadowAnswer::Done(done) => words::shadow(done),
-    }
+pub fn soft_shadow(s: &Stored, ray: Ray, k: f32) -> Words {
+    words::shadow(scene::soft_shadow(&lent(s), ray, k))
 }
 
 // The same for any ray.
-pub fn shadow_any(s: Stored, ro: Vec3, rd: Vec3, tmin: f32, tmax: f32, k: f32) -> Words {
-    let number = refusal(s);
-    if number != 0 {
-        return replay::refused(number);
-    }
-    let kinds = s.kinds;
-    let lengths = s.lengths;
-    let planes = s.plane_parts;
-    let objects = s.object_parts;
-    words::shadow(shading::soft_shadow(
-        s.prims, s.planes, s.objects, &kinds, &lengths, &planes, &objects, ro, rd, tmin, tmax, k,
-    ))
+pub fn shadow_any(s: &Stored, ray: Ray, k: f32) -> Words {
+    let scene = lent(s);
+    words::shadow(
+        scene
+            .check(true)
+            .map(|()| shading::soft_shadow(&scene, ray, k)),
+    )
 }
 
 // How open the hemisphere above p is.
-pub fn closure(s: Stored, p: Vec3, n: Vec3, tmax: f32) -> Words {
-    let kinds = s.kinds;
-    let lengths = s.lengths;
-    let planes = s.plane_parts;
-    let objects = s.object_parts;
-    let answer = scene::hemisphere_closure(
-        s.prims, s.planes, s.objects, &kinds, &lengths, &planes, &objects, p, n, tmax,
-    );
-    match answer {
-        ClosureAnswer::Refused(number) => replay::refused(number),
-        ClosureAnswer::Done(done) => words::closure(done),
-    }
+pub fn closure(s: &Stored, p: Vec3, n: Vec3, tmax: f32) -> Words {
+    words::closure(scene::hemisphere_closure(&lent(s), p, n, tmax))
 }
 
 // The same for any point and normal.
-pub fn closure_any(s: Stored, p: Vec3, n: Vec3, tmax: f32) -> Words {
-    let number = refusal(s);
-    if number != 0 {
-        return replay::refused(number);
-    }
-    let kinds = s.kinds;
-    let lengths = s.lengths;
-    let planes = s.plane_parts;
-    let objects = s.object_parts;
-    words::closure(opening::hemisphere_closure(
-        s.prims, s.planes, s.objects, &kinds, &lengths, &planes, &objects, p, n, tmax,
-    ))
+pub fn closure_any(s: &Stored, p: Vec3, n: Vec3, tmax: f32) -> Words {
+    let scene = lent(s);
+    words::closure(
+        scene
+            .check(true)
+            .map(|()| opening::hemisphere_closure(&scene, p, n, tmax)),
+    )
 }
 
-// The number of the scene's own check, 0 where it is accepted.
-fn refusal(s: Stored) -> u32 {
-    let kinds = s.kinds;
-    let lengths = s.lengths;
-    let planes = s.plane_parts;
-    let objects = s.object_parts;
-    tables::refusal(
-        s.prims, s.planes, s.objects, &kinds, &lengths, &planes, &objects, true,
-    )
+// The stored scene, lent.
+fn lent(s: &Stored) -> Scene<'_> {
+    Scene {
+        prims: s.prims,
+        planes: s.planes,
+        objects: s.objects,
+        kinds: &s.kinds,
+        lengths: &s.lengths,
+        plane_parts: &s.plane_parts,
+        object_parts: &s.object_parts,
+    }
 }

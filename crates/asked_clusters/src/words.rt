@@ -1,5 +1,6 @@
 // Answers as words: the number of a refusal alone, or zero and what was answered.
-use clusters::ClustersAnswer;
+use accept::Refusal;
+use clusters::Clustered;
 use replay::{Words, refused, short};
 use vector::Vec3;
 
@@ -9,11 +10,11 @@ pub fn bucket(n: Vec3) -> Words {
 }
 
 // How many clusters, and how many members.
-pub fn clustered(answer: ClustersAnswer) -> Words {
+pub fn clustered(answer: Result<Clustered, Refusal>) -> Words {
     match answer {
-        ClustersAnswer::Refused(number) => refused(number),
-        ClustersAnswer::Done(made) => refused(0)
+        Ok(made) => refused(0)
             .with(short(made.clusters))
             .with(short(made.members)),
+        Err(refusal) => refused(u32::from(refusal)),
     }
 }

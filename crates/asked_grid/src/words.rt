@@ -1,42 +1,38 @@
 // Answers as words: the number of a refusal alone, or zero and what was answered.
-use grid::{GridAnswer, NearAnswer};
+use accept::Refusal;
+use grid::Dims;
 use replay::{Words, refused, short};
-use surfel::{GatherAllAnswer, GatherAnswer, Reading};
+use surfel::Reading;
 
 // The dimensions.
-pub fn built(answer: GridAnswer) -> Words {
+pub fn built(answer: Result<Dims, Refusal>) -> Words {
     match answer {
-        GridAnswer::Refused(number) => refused(number),
-        GridAnswer::Done(dim) => refused(0)
+        Ok(dim) => refused(0)
             .with(short(dim.x))
             .with(short(dim.y))
             .with(short(dim.z)),
+        Err(refusal) => refused(u32::from(refusal)),
     }
 }
 
 // How many numbers the list has.
-pub fn listed(answer: NearAnswer) -> Words {
+pub fn listed(answer: Result<usize, Refusal>) -> Words {
     match answer {
-        NearAnswer::Refused(number) => refused(number),
-        NearAnswer::Done(count) => refused(0).with(short(count)),
+        Ok(count) => refused(0).with(short(count)),
+        Err(refusal) => refused(u32::from(refusal)),
     }
 }
 
 // 1 and the light, or 0.
-pub fn read(answer: GatherAnswer) -> Words {
+pub fn read(answer: Result<Reading, Refusal>) -> Words {
     match answer {
-        GatherAnswer::Refused(number) => refused(number),
-        GatherAnswer::Done(reading) => match reading {
-            Reading::Seen(light) => refused(0).with(1).with_vector(light),
-            Reading::Unseen => refused(0).with(0),
-        },
+        Ok(Reading::Seen(light)) => refused(0).with(1).with_vector(light),
+        Ok(Reading::Unseen) => refused(0).with(0),
+        Err(refusal) => refused(u32::from(refusal)),
     }
 }
 
 // Nothing more.
-pub fn read_all(answer: GatherAllAnswer) -> Words {
-    match answer {
-        GatherAllAnswer::Refused(number) => refused(number),
-        GatherAllAnswer::Done => refused(0),
-    }
+pub fn read_all(answer: Result<(), Refusal>) -> Words {
+    refused(accept::refusal_number(answer))
 }

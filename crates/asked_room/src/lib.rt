@@ -1,17 +1,10 @@
 // The solve and the reset of a stored room, and their answers as words.
 #![tactic(auto)]
 
-mod cutting;
-mod recording;
-mod resetting;
-mod solving;
+mod ask;
 mod words;
 
-pub use recording::reset_records;
-use replay::Words;
-pub use resetting::reset;
-pub use solving::solve;
-use stored_room::Stored;
+pub use ask::{reset, reset_records, solve};
 
 // How many surfels, clusters, members and links a solve is told of, and the limit of its bounces.
 #[derive(Clone, Copy)]
@@ -30,11 +23,4 @@ pub struct Lengths {
     pub direct: usize,
     pub irr: usize,
     pub rad: usize,
-}
-
-// What a question leaves stored, and the words of its answer.
-#[derive(Clone, Copy)]
-pub struct Asked {
-    pub stored: Stored,
-    pub words: Words,
 }

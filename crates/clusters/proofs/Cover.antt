@@ -18,18 +18,12 @@ use Rattle.clusters.specs.Grouping.{surfel_key, dropped, groups_below, groups, g
 use Rattle.clusters.specs.Keys.{keys}
 use Rattle.clusters.specs.Lent.{Surfels}
 use Rattle.clusters.specs.Needs.{Resolved}
-use Rattle.clusters.specs.Sorting.{key_at}
 use Rattle.clusters.proofs.Gathered.{keyed, below_kept, below_dropped, Keyed, group_keyed}
 use Rattle.clusters.proofs.Numbered.{key_below}
 
 module _ (s : Surfels) (v : Voxels) where
   abbrev key : ℕ → ℕ
-  key = key_at v s.p s.normals
-
-  -- the key as the definition of the groups has it
-  pub key_is : (i : ℕ) → surfel_key s v i ≡ key_at v s.p s.normals i
-  unfolding surfel_key key_at
-  key_is i = refl
+  key = surfel_key s v
 
   -- one key more, no fewer groups
   below_more : (c : ℕ) (t : Bool) → dropped s (keyed s v c) ≡ t → length (groups_below s v c) ≤ length (groups_below s v (suc c))
@@ -92,7 +86,7 @@ module _ (s : Surfels) (v : Voxels) where
 
   -- keys ascend from group to group
   pub groups_ascend : (j k p q : ℕ) → j < k → (h : k < length (groups s v)) → p < length (group_at (groups s v) j) → q < length (group_at (groups s v) k)
-      → key_at v s.p s.normals (number_at (group_at (groups s v) j) p) < key_at v s.p s.normals (number_at (group_at (groups s v) k) q)
+      → surfel_key s v (number_at (group_at (groups s v) j) p) < surfel_key s v (number_at (group_at (groups s v) k) q)
   groups_ascend j k p q f h l m =
       let i : j < length (groups s v) = omega arith in
       let a = group_is j i in
@@ -113,12 +107,12 @@ module _ (s : Surfels) (v : Voxels) where
     pub only : (k q : ℕ) → k < length (groups s v) → q < length (group_at (groups s v) k) → number_at (group_at (groups s v) k) q ≡ i → (k ≡ group) × (q ≡ place)
 
   -- each surfel whose group is not dropped is
-  pub groups_cover : Resolved v → (i : ℕ) → i < s.n → dropped s (keyed s v (key_at v s.p s.normals i)) ≡ false → Once i
+  pub groups_cover : Resolved v → (i : ℕ) → i < s.n → dropped s (keyed s v (surfel_key s v i)) ≡ false → Once i
   unfolding groups
   groups_cover r i h e =
       let c = key i in
       let b = bucket key c (upto i) in
-      let w = group_below c (keys v.res) (key_below v s.p s.normals i r) e in
+      let w = group_below c (keys v.res) (key_below s v i r) e in
       let (rest, u) = upto_below key c i s.n h refl in
       record {
         group = length (groups_below s v c);

@@ -1,5 +1,5 @@
 -- The groups of surfels, gathered from their numbers in the order of the keys: which groups are kept, and the loop that goes from run to run. Assumes nothing.
-use mathlib.Core.Bool.{Bool, true, false, cond, not}
+use mathlib.Core.Bool.{Bool, true, false, cond}
 use mathlib.Core.List.{List, [], ◌∷◌, ◌++◌, append-nil}
 use mathlib.Core.Logic.{inl, inr}
 use mathlib.Core.Path.{◌≡◌, refl, sym, ap, ◌∙◌}
@@ -7,8 +7,8 @@ use Prim.Native.Nat.{ℕ, zero, suc, ◌+◌, ◌-◌, ◌≤◌, ◌<◌}
 use native.Mathlib.Nat.{eq-or-lt_of_le}
 use native.Mathlib.Omega.{arith}
 use lib.Ieee.{le, lt, eq, of_bits}
-use lib.ListN.{length, set, length-append, get_or-append}
-use lib.Seq.{slice, sets, get_or_at}
+use lib.ListN.{length, set, take, drop, length-append, length-take, get_or-append}
+use lib.Seq.{slice, sets, get_or_at, get_or-take, get_or-drop}
 use Rattle.vector.specs.Flat.{rows}
 use Rattle.vector.specs.Fold.{fold}
 use Rattle.accept.specs.Tables.{number_at}
@@ -19,8 +19,8 @@ use Rattle.clusters.specs.declared.Voxels.{Voxels}
 use Rattle.clusters.specs.Grouping.{surfel_key, summed, dropped, groups_below, groups, group_at}
 use Rattle.clusters.specs.Keys.{keys}
 use Rattle.clusters.specs.Lent.{Surfels}
-use Rattle.clusters.specs.Needs.{Resolved, Sorted, clustered_of, first_left, count_left, member_left}
-use Rattle.clusters.specs.Sorting.{key_at, Run}
+use Rattle.clusters.specs.Needs.{Resolved, Numbers, AllBelow, Sorted, clustered_of, first_left, count_left, member_left}
+use Rattle.clusters.specs.Sorting.{Run}
 use Rattle.clusters.proofs.Numbered.{key_below}
 use Rattle.clusters.proofs.Runs as runs
 use Rattle.clusters.proofs.Stored.{joined, joined_none, first_none, count_none, member_none, joined_more, first_more, count_more, member_more}
@@ -29,29 +29,20 @@ no_members : (l : List ℕ) → length l ≡ 0 → l ≡ []
 no_members [] e = refl
 no_members (x ∷ l) e = absurd (omega arith)
 
--- the test as the code makes it
-pub not_kept : (b : Bool) → not b ≡ true → b ≡ false
-not_kept true e = sym e
-not_kept false e = refl
-
-pub not_dropped : (b : Bool) → not b ≡ false → b ≡ true
-not_dropped true e = refl
-not_dropped false e = sym e
-
 module _ (s : Surfels) (v : Voxels) where
   abbrev key : ℕ → ℕ
-  key = key_at v s.p s.normals
+  key = surfel_key s v
 
   -- the surfels that have the key c
   abbrev pub keyed : ℕ → List ℕ
-  keyed c = bucket (key_at v s.p s.normals) c (upto s.n)
+  keyed c = bucket (surfel_key s v) c (upto s.n)
 
   -- where they begin in the order of the keys
   abbrev begin : ℕ → ℕ
-  begin c = earlier (key_at v s.p s.normals) (upto s.n) c
+  begin c = earlier (surfel_key s v) (upto s.n) c
 
   below_step : (c : ℕ) → groups_below s v (suc c) ≡ groups_below s v c ++ cond (dropped s (keyed c)) [] (keyed c ∷ [])
-  unfolding groups_below rows surfel_key key_at
+  unfolding groups_below rows
   below_step c = refl
 
   below_none : groups_below s v 0 ≡ []
@@ -153,13 +144,18 @@ module _ (s : Surfels) (v : Voxels) where
       }
 
   -- l has the numbers in the order of their keys, and there is room for as many groups and members
-  module _ (r : Resolved v) (l first₀ count₀ members₀ : List ℕ) (sorted : Sorted s.n s.p s.normals v l)
+  module _ (r : Resolved v) (l first₀ count₀ members₀ : List ℕ) (sorted : Sorted s v l)
       (wide : s.n ≤ length first₀) (long : s.n ≤ length count₀) where
     all : (i : ℕ) → i < s.n → key i < keys v.res
-    all i h = key_below v s.p s.normals i r
+    all i h = key_below s v i r
 
-    pub numbers_below_lem : (k : ℕ) → k < s.n → number_at l k < s.n
-    numbers_below_lem = runs.number_small key s.n (keys v.res) all l sorted.as_sorted
+    pub numbers : Numbers s.n l
+    numbers = record { held = sorted.held; below = runs.number_small key s.n (keys v.res) all l sorted.as_sorted }
+
+    pub part_below : (a e : ℕ) → a ≤ e → e ≤ s.n → AllBelow s.n (take (e - a) (drop a l))
+    part_below a e h m k p =
+        let q : k < e - a = omega (arith, length-take (e - a) (drop a l), p) in
+        rw (get_or-take (e - a) (drop a l) k 0 q, get_or-drop a l k 0) (numbers.below (a + k) (omega arith))
 
     pub record Ended (first count members : List ℕ) (k w : ℕ) : Type 0 where
       pub answer : record { clusters = k; members = w } ≡ clustered_of (groups s v)

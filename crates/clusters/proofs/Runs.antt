@@ -24,17 +24,6 @@ module _ (key : ℕ → ℕ) (n a : ℕ) where
   pub ran_begins : a < n → Ran key n a (a + 1)
   ran_begins h = record { past = omega arith; within = omega arith; same = λ k l r. ap key (omega arith) }
 
-  pub ran_more : (e : ℕ) → Ran key n a e → e < n → key e ≡ key a → Ran key n a (e + 1)
-  ran_more e w h q =
-      record {
-        past = omega (arith, w.past);
-        within = omega arith;
-        same = λ k l r. elim (eq-or-lt_of_le {n = k} {m = e} (omega arith)) [ inl i ↦ ap key i ∙ q | inr i ↦ w.same k l i ];
-      }
-
-  pub ran_ends : (e : ℕ) → Ran key n a e → (e < n → key e ≡ key a → ⊥) → Run key n a e
-  ran_ends e w h = record { past = w.past; within = w.within; same = w.same; ends = h }
-
 -- the first n numbers of l are those of 0 .. n - 1 in the order of a key, all keys being below m
 module _ (key : ℕ → ℕ) (n m : ℕ) (all : (i : ℕ) → i < n → key i < m) (l : List ℕ) (sorted : take n l ≡ ordered key m (upto n)) where
   pub number_there : (k : ℕ) → k < n → number_at l k ≡ standing key n m k

@@ -2,12 +2,14 @@
 use mathlib.Core.List.{List, [], ◌∷◌, ◌++◌, append_assoc, append-nil}
 use mathlib.Core.Logic.{inl, inr}
 use mathlib.Core.Path.{◌≡◌, refl, sym, ap, ◌∙◌}
-use Prim.Native.Nat.{ℕ, zero, suc, ◌+◌, ◌≤◌, ◌<◌}
+use Prim.Native.Nat.{ℕ, zero, suc, ◌+◌, ◌-◌, ◌≤◌, ◌<◌}
+use borrow.Rule.Slice.PartMut.{put_mid}
+use Rattle.std.proofs.lemmas.List.{drop-take}
 use native.Mathlib.Nat.{eq-or-lt_of_le}
 use native.Mathlib.Numerals.{add-one}
 use native.Mathlib.Omega.{arith}
-use lib.ListN.{length, set, drop, length-append, get_or-append}
-use lib.Seq.{slice, sets, sets-eq, get_or_at, take_at, drop_at}
+use lib.ListN.{length, set, take, drop, length-append, get_or-append}
+use lib.Seq.{drop-drop, slice, sets, sets-eq, get_or_at, take_at, drop_at}
 use Rattle.vector.specs.Flat.{rows, filled}
 use Rattle.vector.proofs.Replaced.{filled_none, filled_put, rows_same, at_filled}
 use Rattle.accept.specs.Tables.{number_at}
@@ -15,6 +17,18 @@ use Rattle.order.proofs.Filled.{filled_same}
 use Rattle.clusters.specs.Grouping.{group_at, group_start}
 use Rattle.clusters.specs.Needs.{first_left, count_left, member_left, members_at}
 use Rattle.vector.proofs.Stored.{sets_append}
+
+-- a part of a list, as a loop is lent it
+pub part_is : {A : Type 0} (l : List A) (a e : ℕ) → a ≤ e → take (e - a) (drop a l) ≡ slice a e l
+part_is l a e h =
+    let f : a + (e - a) ≡ e = omega arith in
+    sym (drop-take a (e - a) l) ∙ ap (λ (k : ℕ). drop a (take k l)) f
+
+-- and one that n numbers were copied over
+pub put_part : {A : Type 0} (l xs : List A) (w n : ℕ) → length xs ≡ n → w + n ≤ length l → put_mid w (w + n - w) l xs ≡ sets l w xs
+put_part l xs w n k h =
+    let e : w + n - w ≡ length xs = omega arith in
+    rw (e, drop-drop (length xs) w l) (sym (sets-eq xs l w (omega (arith, k)) ∙ append_assoc (take w l) xs (drop (w + length xs) l)))
 
 -- all members of groups, one group after the other
 abbrev pub joined : List (List ℕ) → List ℕ

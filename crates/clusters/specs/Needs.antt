@@ -1,15 +1,15 @@
 -- What the functions beneath the entries ask of each other. Definitions only.
-use Rattle.std.specs.Prelude.{List, ◌≡◌, ℕ, ◌+◌, ◌*◌, ◌<◌, ◌≤◌, Float, length, take}
+use Rattle.std.specs.Prelude.{List, ◌≡◌, ℕ, ◌+◌, ◌*◌, ◌<◌, ◌≤◌, length, take}
 use Rattle.std.proofs.Math.Seq.{slice}
 use Rattle.std.proofs.lemmas.List.Edits.{sets}
-use Rattle.vector.specs.Flat.{Slice, filled, rows}
+use Rattle.vector.specs.Flat.{filled, rows}
 use Rattle.accept.specs.Limits.{max_surfels}
 use Rattle.accept.specs.Tables.{number_at}
 use Rattle.clusters.specs.declared.Cluster.{Cluster}
 use Rattle.clusters.specs.declared.Clustered.{Clustered}
 use Rattle.clusters.specs.declared.Voxels.{Voxels}
-use Rattle.clusters.specs.Grouping.{summed, cluster_from, groups, group_at, group_start}
-use Rattle.clusters.specs.Lent.{Surfels, Columns, surfels_in}
+use Rattle.clusters.specs.Grouping.{summed, cluster_from, group_at, group_start}
+use Rattle.clusters.specs.Lent.{Surfels, Columns}
 use Rattle.clusters.specs.Sorting.{in_order}
 
 -- from 1 to 64 voxels on each axis
@@ -17,33 +17,27 @@ pub record Resolved (v : Voxels) : Type 0 where
   pub from : 1 ≤ v.res
   pub to : v.res ≤ 64
 
--- n surfels are within their limit, and their places and normals are lent
-pub record Placed (n : ℕ) (p normals : List Float) : Type 0 where
-  pub few : n ≤ max_surfels
-  pub places : 3 * n ≤ length p
-  pub normals_held : 3 * n ≤ length normals
+-- surfels within their limit, all of whose columns are lent, and voxels to put them in
+pub record Held (s : Surfels) (v : Voxels) : Type 0 where
+  pub resolved : Resolved v
+  pub few : s.n ≤ max_surfels
+  pub places : 3 * s.n ≤ length s.p
+  pub normals : 3 * s.n ≤ length s.normals
+  pub areas : s.n ≤ length s.area
 
--- the numbers of a list from one place up to another are those of surfels
-abbrev pub Below : ℕ → List ℕ → ℕ → ℕ → Type 0
-Below n l from to = (k : ℕ) → from ≤ k → k < to → number_at l k < n
+-- all numbers of a list are those of n surfels
+abbrev pub AllBelow : ℕ → List ℕ → Type 0
+AllBelow n l = (k : ℕ) → k < length l → number_at l k < n
 
 -- the first n numbers of a list are those of surfels
 pub record Numbers (n : ℕ) (l : List ℕ) : Type 0 where
   pub held : n ≤ length l
   pub below : (k : ℕ) → k < n → number_at l k < n
 
--- the first n numbers of a list are in the order of their keys
-pub record Sorted (n : ℕ) (p normals : List Float) (v : Voxels) (l : List ℕ) : Type 0 where
-  pub held : n ≤ length l
-  pub as_sorted : take n l ≡ in_order n p normals v
-
--- the surfels of these lists
-abbrev pub surfels_of : ℕ → List Float → List Float → List Float → Surfels
-surfels_of n p normals area = record { n = n; p = p; normals = normals; area = area }
-
--- the groups of surfels that a function was lent
-abbrev pub groups_in : ℕ → Slice Float → Slice Float → Slice Float → Voxels → List (List ℕ)
-groups_in n p normals area v = groups (surfels_in n p normals area) v
+-- the first numbers of a list are those of the surfels in the order of their keys
+pub record Sorted (s : Surfels) (v : Voxels) (l : List ℕ) : Type 0 where
+  pub held : s.n ≤ length l
+  pub as_sorted : take s.n l ≡ in_order s v
 
 -- how many groups, and how many members
 abbrev pub clustered_of : List (List ℕ) → Clustered
@@ -66,16 +60,12 @@ members_at first count members k = slice (number_at first k) (number_at first k 
 abbrev pub cluster_at : Surfels → List ℕ → List ℕ → List ℕ → ℕ → Cluster
 cluster_at s first count members k = cluster_from (summed s (members_at first count members k))
 
-abbrev pub cluster_in : ℕ → Slice Float → Slice Float → Slice Float → Slice ℕ → Slice ℕ → Slice ℕ → ℕ → Cluster
-cluster_in n p normals area first count members =
-    cluster_at (surfels_in n p normals area) first.entry.now count.entry.now members.entry.now
-
 -- each of m clusters lies within the lists, and its members are surfels
 pub record Ranged (n m : ℕ) (first count members : List ℕ) : Type 0 where
   pub firsts : m ≤ length first
   pub counts : m ≤ length count
   pub within : (k : ℕ) → k < m → number_at first k + number_at count k ≤ length members
-  pub below : (k : ℕ) → k < m → Below n members (number_at first k) (number_at first k + number_at count k)
+  pub below : (k : ℕ) → k < m → AllBelow n (members_at first count members k)
 
 -- n entries fit into each column of clusters, and n numbers into the members
 pub record Roomy (n : ℕ) (l : Columns) : Type 0 where
@@ -86,7 +76,3 @@ pub record Roomy (n : ℕ) (l : Columns) : Type 0 where
   pub firsts : n ≤ length l.first
   pub counts : n ≤ length l.count
   pub members : n ≤ length l.member
-
--- the columns of these lists
-abbrev pub columns_of : List Float → List Float → List Float → List Float → List ℕ → List ℕ → List ℕ → Columns
-columns_of p n area radius first count member = record { p = p; n = n; area = area; radius = radius; first = first; count = count; member = member }

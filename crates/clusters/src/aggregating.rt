@@ -1,77 +1,66 @@
 // Each group of surfels as one emitter.
-ghost use Rattle.std.specs.Prelude.{◌≡◌, ◌+◌, ◌*◌, ◌<◌, ◌≤◌, length};
+ghost use Rattle.std.specs.Prelude.{◌≡◌, ◌*◌, ◌<◌, ◌≤◌, length};
 ghost use Rattle.vector.specs.Flat.{written, filled};
 ghost use Rattle.clusters.specs.Grouping.{normal_from, cluster_from};
-ghost use Rattle.clusters.specs.Needs.{Placed, Ranged, cluster_in};
+ghost use Rattle.clusters.specs.Made.{InRange, cluster_of};
 
 use crate::grouping::sum_members;
+use crate::surfels::Divided;
 use crate::{Cluster, Sums};
 use accept::wide;
 use vector::{Vec3, put};
 
-// The clusters of m groups, to the first places of the four columns.
+// Groups that were stored: how many, where the members of each begin, how many members each has, and
+// the members.
+#[derive(Drop)]
+pub struct Groups<'a> {
+    pub made: usize,
+    pub first: &'a [u32],
+    pub count: &'a [u32],
+    pub member: &'a [u32],
+}
+
+// The clusters of groups, to the first places of the four columns.
 pub fn aggregate(
-    n: usize,
-    p: &[f32],
-    normals: &[f32],
-    area: &[f32],
-    m: usize,
-    first: &[u32],
-    count: &[u32],
-    members: &[u32],
-    cluster_p: &mut [f32],
-    cluster_n: &mut [f32],
-    cluster_area: &mut [f32],
-    cluster_radius: &mut [f32],
+    d: &Divided,
+    groups: &Groups,
+    p: &mut [f32],
+    n: &mut [f32],
+    area: &mut [f32],
+    radius: &mut [f32],
 )
-    requires placed { Placed n p.now normals.now }
-    requires n_in_bounds { n ≤ length area.now }
-    requires ranged { Ranged n m first.now count.now members.now }
-    requires m_in_bounds { 3 * m ≤ length cluster_p.old }
-    requires m_in_bounds_2 { 3 * m ≤ length cluster_n.old }
-    requires m_in_bounds_3 { m ≤ length cluster_area.old }
-    requires m_in_bounds_4 { m ≤ length cluster_radius.old }
-    ensures cluster_p_after { cluster_p.new ≡ written (λ k. (cluster_in n p normals area first count members k).p) m cluster_p.old }
-    ensures cluster_n_after { cluster_n.new ≡ written (λ k. (cluster_in n p normals area first count members k).n) m cluster_n.old }
-    ensures cluster_area_after { cluster_area.new ≡ filled (λ k. (cluster_in n p normals area first count members k).area) m cluster_area.old }
-    ensures cluster_radius_after { cluster_radius.new ≡ filled (λ k. (cluster_in n p normals area first count members k).radius) m
-        cluster_radius.old }
+    requires ranged { InRange d.now.surfels groups.now }
+    requires p_in_bounds { 3 * groups.now.made ≤ length p.old }
+    requires n_in_bounds { 3 * groups.now.made ≤ length n.old }
+    requires area_in_bounds { groups.now.made ≤ length area.old }
+    requires radius_in_bounds { groups.now.made ≤ length radius.old }
+    ensures p_after { p.new ≡ written (λ k. (cluster_of d.now.surfels groups.now k).p) groups.now.made p.old }
+    ensures n_after { n.new ≡ written (λ k. (cluster_of d.now.surfels groups.now k).n) groups.now.made n.old }
+    ensures area_after { area.new ≡ filled (λ k. (cluster_of d.now.surfels groups.now k).area) groups.now.made area.old }
+    ensures radius_after { radius.new ≡ filled (λ k. (cluster_of d.now.surfels groups.now k).radius) groups.now.made radius.old }
 {
-    let mut k = 0;
-    while k < m {
-        let c = cluster_at(n, p, normals, area, m, first, count, members, k);
-        put(cluster_p, k, c.p);
-        put(cluster_n, k, c.n);
-        cluster_area[k] = c.area;
-        cluster_radius[k] = c.radius;
-        k += 1;
+    for k in 0..groups.made {
+        let c = cluster_of(d, groups, k);
+        put(p, k, c.p);
+        put(n, k, c.n);
+        area[k] = c.area;
+        radius[k] = c.radius;
     }
 }
 
 // The cluster of group k.
-fn cluster_at(
-    n: usize,
-    p: &[f32],
-    normals: &[f32],
-    area: &[f32],
-    m: usize,
-    first: &[u32],
-    count: &[u32],
-    members: &[u32],
-    k: usize,
-) -> Cluster
-    requires placed { Placed n p.now normals.now }
-    requires n_in_bounds { n ≤ length area.now }
-    requires ranged { Ranged n m first.now count.now members.now }
-    requires k_lt_m { k < m }
-    ensures { result ≡ cluster_in n p normals area first count members k }
+fn cluster_of(d: &Divided, groups: &Groups, k: usize) -> Cluster
+    requires ranged { InRange d.now.surfels groups.now }
+    requires k_lt_made { k < groups.now.made }
+    ensures { result ≡ cluster_of d.now.surfels groups.now k }
 {
-    let from = wide(first[k]);
-    let to = from + wide(count[k]);
-    cluster_from(sum_members(n, p, normals, area, members, from, to))
+    let from = wide(groups.first[k]);
+    let to = from + wide(groups.count[k]);
+    cluster_from(sum_members(d, &groups.member[from..to]))
 }
 
 // The cluster from the sums of its members: the radius is that of a disc with its area.
+#[tactic(auto, unfolding(crate::specs::Grouping::cluster_from))]
 fn cluster_from(t: Sums) -> Cluster
     ensures { result ≡ cluster_from t }
 {
@@ -84,6 +73,7 @@ fn cluster_from(t: Sums) -> Cluster
 }
 
 // The normal from summed normals; y where they all but cancel.
+#[tactic(auto, unfolding(crate::specs::Grouping::normal_from))]
 fn normal_from(n: Vec3) -> Vec3
     ensures { result ≡ normal_from n }
 {

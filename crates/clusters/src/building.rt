@@ -1,61 +1,45 @@
 // Clusters made of surfels: their numbers sorted by key, grouped, and each group aggregated.
 ghost use Rattle.std.specs.Prelude.{◌≡◌, ◌≤◌, length};
 ghost use Rattle.vector.specs.Flat.{KeptFrom};
-ghost use Rattle.clusters.specs.Grouping.{columns_left};
-ghost use Rattle.clusters.specs.Lent.{surfels_in, columns_in, columns_out};
-ghost use Rattle.clusters.specs.Needs.{Resolved, Placed, Roomy, columns_of, groups_in, clustered_of};
+ghost use Rattle.clusters.specs.Grouping.{groups, columns_left};
+ghost use Rattle.clusters.specs.Left.{columns_held, columns_after};
+ghost use Rattle.clusters.specs.Needs.{Roomy, clustered_of};
 
-use crate::aggregating::aggregate;
+use crate::Clustered;
+use crate::aggregating::{Groups, aggregate};
+use crate::columns::Columns;
 use crate::grouping::group;
 use crate::sorting::sort;
-use crate::{Clustered, Voxels};
+use crate::surfels::Divided;
 
-// The clusters of n surfels, in the columns; order and spare are scratch.
-pub fn build(
-    n: usize,
-    p: &[f32],
-    normals: &[f32],
-    area: &[f32],
-    v: Voxels,
-    cluster_p: &mut [f32],
-    cluster_n: &mut [f32],
-    cluster_area: &mut [f32],
-    cluster_radius: &mut [f32],
-    first: &mut [u32],
-    count: &mut [u32],
-    members: &mut [u32],
-    order: &mut [u32],
-    spare: &mut [u32],
-) -> Clustered
-    requires resolved { Resolved v }
-    requires placed { Placed n p.now normals.now }
-    requires n_in_bounds { n ≤ length area.now }
-    requires roomy { Roomy n (columns_of cluster_p.old cluster_n.old cluster_area.old cluster_radius.old first.old count.old
-        members.old) }
-    requires n_in_bounds_2 { n ≤ length order.old }
-    requires n_in_bounds_3 { n ≤ length spare.old }
-    ensures value { result ≡ clustered_of (groups_in n p normals area v) }
-    ensures members_value { columns_out cluster_p cluster_n cluster_area cluster_radius first count members
-        ≡ columns_left (surfels_in n p normals area) (groups_in n p normals area v)
-        (columns_in cluster_p cluster_n cluster_area cluster_radius first count members) }
-    ensures kept_from { KeptFrom n order }
-    ensures kept_from_2 { KeptFrom n spare }
+// The clusters of the surfels, in the columns; order and spare are scratch.
+pub fn build(d: &Divided, columns: Columns<'_>, order: &mut [u32], spare: &mut [u32]) -> Clustered
+    requires roomy { Roomy d.now.surfels.n (columns_held columns) }
+    requires order_in_bounds { d.now.surfels.n ≤ length order.old }
+    requires spare_in_bounds { d.now.surfels.n ≤ length spare.old }
+    ensures value { result ≡ clustered_of (groups d.now.surfels d.now.voxels) }
+    ensures columns_value { columns_after columns.exit
+        ≡ columns_left d.now.surfels (groups d.now.surfels d.now.voxels) (columns_held columns.entry) }
+    ensures kept_from { KeptFrom d.now.surfels.n order }
+    ensures kept_from_2 { KeptFrom d.now.surfels.n spare }
 {
-    sort(n, p, normals, v, order, spare);
-    let made = group(n, p, normals, area, v, order, first, count, members);
-    aggregate(
-        n,
+    let Columns {
         p,
-        normals,
+        n,
         area,
-        made.clusters,
+        radius,
         first,
         count,
-        members,
-        cluster_p,
-        cluster_n,
-        cluster_area,
-        cluster_radius,
-    );
+        member,
+    } = columns;
+    sort(d, order, spare);
+    let made = group(d, order, first, count, member);
+    let groups = Groups {
+        made: made.clusters,
+        first,
+        count,
+        member,
+    };
+    aggregate(d, &groups, p, n, area, radius);
     made
 }

@@ -2,78 +2,67 @@
 // the clusters.
 ghost use Rattle.std.specs.Prelude.{◌≡◌, length};
 ghost use Rattle.vector.specs.Flat.{KeptFrom};
-ghost use Rattle.clusters.specs.Lent.{surfels_in, columns_in, columns_out};
 ghost use Rattle.clusters.specs.Answers.{build_clusters_answer, scratch_open};
+ghost use Rattle.clusters.specs.Left.{columns_held, columns_after};
 
-use crate::ClustersAnswer;
 use crate::building::build;
-use crate::checks::{columns_hold, refusal};
+use crate::checks::check;
+use crate::columns::{Columns, Lengths};
 use crate::keys::voxels_of;
-use vector::Vec3;
+use crate::surfels::{Divided, Surfels};
+use crate::{Clustered, Cut};
+use accept::Refusal;
 
-// Makes clusters of n surfels: those of one voxel, of res voxels on each axis of the box from lo to
-// hi, whose normals are in one bucket. The clusters stand by ascending voxel x, y, z and bucket, and
-// each one's members ascend.
+// Makes clusters of surfels: those of one voxel, of those that the box is cut into, whose normals are
+// in one bucket. The clusters stand by ascending voxel x, y, z and bucket, and each one's members
+// ascend.
 pub fn build_clusters(
-    n: usize,
-    p: &[f32],
-    normals: &[f32],
-    area: &[f32],
-    lo: Vec3,
-    hi: Vec3,
-    res: usize,
-    cluster_p: &mut [f32],
-    cluster_n: &mut [f32],
-    cluster_area: &mut [f32],
-    cluster_radius: &mut [f32],
-    first: &mut [u32],
-    count: &mut [u32],
-    members: &mut [u32],
+    surfels: &Surfels,
+    cut: Cut,
+    columns: Columns<'_>,
     order: &mut [u32],
     spare: &mut [u32],
-) -> ClustersAnswer
-    ensures members_value { (result, columns_out cluster_p cluster_n cluster_area cluster_radius first count members)
-        ≡ build_clusters_answer (surfels_in n p normals area) lo hi res
-        (columns_in cluster_p cluster_n cluster_area cluster_radius first count members) (length order.old) (length
-        spare.old) }
-    ensures kept_from { KeptFrom (scratch_open (surfels_in n p normals area) lo hi res
-        (columns_in cluster_p cluster_n cluster_area cluster_radius first count members) (length order.old) (length
+) -> Result<Clustered, Refusal>
+    ensures columns_value { (result, columns_after columns.exit)
+        ≡ build_clusters_answer surfels.now cut.lo cut.hi cut.res (columns_held columns.entry) (length order.old) (length spare.old) }
+    ensures kept_from { KeptFrom (scratch_open surfels.now cut.lo cut.hi cut.res (columns_held columns.entry) (length order.old) (length
         spare.old)) order }
-    ensures kept_from_2 { KeptFrom (scratch_open (surfels_in n p normals area) lo hi res
-        (columns_in cluster_p cluster_n cluster_area cluster_radius first count members) (length order.old) (length
+    ensures kept_from_2 { KeptFrom (scratch_open surfels.now cut.lo cut.hi cut.res (columns_held columns.entry) (length order.old) (length
         spare.old)) spare }
 {
-    let columns = columns_hold(
+    let Columns {
+        p,
         n,
-        cluster_p.len(),
-        cluster_n.len(),
-        cluster_area.len(),
-        cluster_radius.len(),
-        first.len(),
-        count.len(),
-        members.len(),
-        order.len(),
-        spare.len(),
-    );
-    let number = refusal(n, p, normals, area, lo, hi, res, columns);
-    if number == 0 {
-        ClustersAnswer::Done(build(
-            n,
-            p,
-            normals,
-            area,
-            voxels_of(lo, hi, res),
-            cluster_p,
-            cluster_n,
-            cluster_area,
-            cluster_radius,
-            first,
-            count,
-            members,
-            order,
-            spare,
-        ))
-    } else {
-        ClustersAnswer::Refused(number)
-    }
+        area,
+        radius,
+        first,
+        count,
+        member,
+    } = columns;
+    let lengths = Lengths {
+        p: p.len(),
+        n: n.len(),
+        area: area.len(),
+        radius: radius.len(),
+        first: first.len(),
+        count: count.len(),
+        member: member.len(),
+        order: order.len(),
+        spare: spare.len(),
+    };
+    check(surfels, cut, lengths)?;
+    let divided = Divided {
+        surfels: surfels.lent(),
+        voxels: voxels_of(cut),
+    };
+    let columns = Columns {
+        p,
+        n,
+        area,
+        radius,
+        first,
+        count,
+        member,
+    };
+    Ok(build(&divided, columns, order, spare))
 }

@@ -1,57 +1,50 @@
 // The groups of surfels with one key, from their numbers in the order of the keys: where each
 // begins, how many members it has, and the members. Groups with almost no area are left out.
-ghost use Rattle.std.specs.Prelude.{◌≡◌, ◌+◌, ◌-◌, ◌<◌, ◌≤◌, length};
-ghost use Rattle.std.proofs.Math.Seq.{slice};
-ghost use Rattle.std.proofs.lemmas.List.Edits.{sets};
+ghost use Rattle.std.specs.Prelude.{◌≡◌, ◌<◌, ◌≤◌, length};
 ghost use Rattle.accept.specs.Tables.{number_at};
-ghost use Rattle.clusters.specs.Grouping.{added, summed};
-ghost use Rattle.clusters.specs.Lent.{surfels_in};
-ghost use Rattle.clusters.specs.Needs.{Resolved, Placed, Numbers, Sorted, Below};
-ghost use Rattle.clusters.specs.Needs.{groups_in, clustered_of, first_left, count_left, member_left};
-ghost use Rattle.clusters.specs.Sorting.{key_at, Run};
+ghost use Rattle.clusters.specs.Grouping.{surfel_key, groups, added, summed};
+ghost use Rattle.clusters.specs.Needs.{AllBelow, Numbers, Sorted};
+ghost use Rattle.clusters.specs.Needs.{clustered_of, first_left, count_left, member_left};
+ghost use Rattle.clusters.specs.Sorting.{Run};
 
 use crate::keys::{surfel_key, vector_at};
-use crate::{Clustered, Sums, Voxels};
+use crate::surfels::Divided;
+use crate::{Clustered, Sums};
 use accept::wide;
 use vector::Vec3;
 
 // The groups, and how many they are: first has where the members of each begin, count how many it
 // has.
 pub fn group(
-    n: usize,
-    p: &[f32],
-    normals: &[f32],
-    area: &[f32],
-    v: Voxels,
+    d: &Divided,
     order: &[u32],
     first: &mut [u32],
     count: &mut [u32],
     members: &mut [u32],
 ) -> Clustered
-    requires resolved { Resolved v }
-    requires placed { Placed n p.now normals.now }
-    requires n_in_bounds { n ≤ length area.now }
-    requires sorted { Sorted n p.now normals.now v order.now }
-    requires n_in_bounds_2 { n ≤ length first.old }
-    requires n_in_bounds_3 { n ≤ length count.old }
-    requires n_in_bounds_4 { n ≤ length members.old }
-    ensures value { result ≡ clustered_of (groups_in n p normals area v) }
-    ensures first_after { first.new ≡ first_left (groups_in n p normals area v) first.old }
-    ensures count_after { count.new ≡ count_left (groups_in n p normals area v) count.old }
-    ensures members_after { members.new ≡ member_left (groups_in n p normals area v) members.old }
+    requires sorted { Sorted d.now.surfels d.now.voxels order.now }
+    requires first_in_bounds { d.now.surfels.n ≤ length first.old }
+    requires count_in_bounds { d.now.surfels.n ≤ length count.old }
+    requires members_in_bounds { d.now.surfels.n ≤ length members.old }
+    ensures value { result ≡ clustered_of (groups d.now.surfels d.now.voxels) }
+    ensures first_after { first.new ≡ first_left (groups d.now.surfels d.now.voxels) first.old }
+    ensures count_after { count.new ≡ count_left (groups d.now.surfels d.now.voxels) count.old }
+    ensures members_after { members.new ≡ member_left (groups d.now.surfels d.now.voxels) members.old }
 {
+    let n = d.len();
     let mut at = 0;
     let mut k = 0;
     let mut w = 0;
+    // Kept: a turn ends where a run of equal keys does, which no range of numbers gives.
     while at < n {
-        let end = run_end(n, p, normals, v, order, at);
-        let t = sum_members(n, p, normals, area, order, at, end);
-        if !(t.area <= 1e-12) {
+        let end = run_end(d, order, at);
+        let run = &order[at..end];
+        if !(sum_members(d, run).area <= 1e-12) {
             first[k] = w as u32;
-            count[k] = (end - at) as u32;
-            copy(order, at, end, members, w);
+            count[k] = run.len() as u32;
+            members[w..w + run.len()].copy_from_slice(run);
             k += 1;
-            w += end - at;
+            w += run.len();
         }
         at = end;
     }
@@ -62,79 +55,48 @@ pub fn group(
 }
 
 // Where the run of the key at place `at` ends.
-fn run_end(n: usize, p: &[f32], normals: &[f32], v: Voxels, order: &[u32], at: usize) -> usize
-    requires resolved { Resolved v }
-    requires placed { Placed n p.now normals.now }
-    requires numbers { Numbers n order.now }
-    requires at_lt_n { at < n }
-    ensures { Run (λ k. key_at v p.now normals.now (number_at order.now k)) n at result }
+fn run_end(d: &Divided, order: &[u32], at: usize) -> usize
+    requires numbers { Numbers d.now.surfels.n order.now }
+    requires at_lt_n { at < d.now.surfels.n }
+    ensures { Run (λ k. surfel_key d.now.surfels d.now.voxels (number_at order.now k)) d.now.surfels.n at result }
 {
-    let c = surfel_key(v, p, normals, wide(order[at]));
-    let mut end = at + 1;
-    while end < n {
-        if surfel_key(v, p, normals, wide(order[end])) != c {
-            return end;
+    let n = d.len();
+    let c = surfel_key(d, wide(order[at]));
+    for k in at + 1..n {
+        if surfel_key(d, wide(order[k])) != c {
+            return k;
         }
-        end += 1;
     }
-    end
+    n
 }
 
-// The numbers of a list from one place up to another, copied to place `at` on.
-fn copy(list: &[u32], from: usize, to: usize, members: &mut [u32], at: usize)
-    requires from_le_to { from ≤ to }
-    requires to_in_bounds { to ≤ length list.now }
-    requires from_in_bounds { at + (to - from) ≤ length members.old }
-    ensures { members.new ≡ sets members.old at (slice from to list.now) }
-{
-    let mut j = 0;
-    while j < to - from {
-        members[at + j] = list[from + j];
-        j += 1;
-    }
-}
-
-// The sums of the members that a list has from one place up to another, in their order.
-pub fn sum_members(
-    n: usize,
-    p: &[f32],
-    normals: &[f32],
-    area: &[f32],
-    list: &[u32],
-    from: usize,
-    to: usize,
-) -> Sums
-    requires placed { Placed n p.now normals.now }
-    requires n_in_bounds { n ≤ length area.now }
-    requires from_le_to { from ≤ to }
-    requires to_in_bounds { to ≤ length list.now }
-    requires below { Below n list.now from to }
-    ensures { result ≡ summed (surfels_in n p normals area) (slice from to list.now) }
+// The sums of members, in their order.
+pub fn sum_members(d: &Divided, members: &[u32]) -> Sums
+    requires { AllBelow d.now.surfels.n members.now }
+    ensures { result ≡ summed d.now.surfels members.now }
 {
     let mut t = Sums {
         p: Vec3::zero(),
         n: Vec3::zero(),
         area: 0.0,
     };
-    let mut j = 0;
-    while j < to - from {
-        t = add_member(n, p, normals, area, t, wide(list[from + j]));
-        j += 1;
+    for i in members {
+        t = add_member(d, t, wide(*i));
     }
     t
 }
 
 // The sums with surfel i too: its place and its normal count by its area.
-fn add_member(n: usize, p: &[f32], normals: &[f32], area: &[f32], t: Sums, i: usize) -> Sums
-    requires placed { Placed n p.now normals.now }
-    requires n_in_bounds { n ≤ length area.now }
-    requires i_lt_n { i < n }
-    ensures { result ≡ added (surfels_in n p normals area) t i }
+#[tactic(auto, unfolding(crate::specs::Grouping::added))]
+fn add_member(d: &Divided, t: Sums, i: usize) -> Sums
+    requires { i < d.now.surfels.n }
+    ensures { result ≡ added d.now.surfels t i }
 {
-    let a = area[i];
+    let s = &d.surfels;
+    let a = s.area[i];
     Sums {
-        p: t.p.plus(vector_at(p, i).scaled(a)),
-        n: t.n.plus(vector_at(normals, i).scaled(a)),
+        p: t.p.plus(vector_at(s.p, i).scaled(a)),
+        n: t.n.plus(vector_at(s.normals, i).scaled(a)),
         area: t.area + a,
     }
 }

@@ -3,13 +3,16 @@ ghost use Rattle.std.specs.Prelude.{◌≡◌, ◌+◌, ◌*◌, ◌<◌, ◌≤
 ghost use Rattle.vector.specs.Flat.{vec_at};
 ghost use Rattle.clusters.specs.Keys.{normal_bucket, per_unit, voxels_of, key_of};
 ghost use Rattle.clusters.specs.Needs.{Resolved};
-ghost use Rattle.clusters.specs.Sorting.{key_at};
+ghost use Rattle.clusters.specs.Grouping.{surfel_key};
 
-use crate::Voxels;
+use crate::surfels::Divided;
+use crate::{Cut, Voxels};
 use vector::Vec3;
 
 // The axis along which n is longest, x before y before z where two are as long, and its sign: 0 and 1
 // for x, 2 and 3 for y, 4 and 5 for z.
+// Kept: a number, since it is a digit of the key, and document 01 gives the bucket of four normals so.
+#[tactic(auto, unfolding(crate::specs::Keys::normal_bucket, vector::specs::Vector::absolutes))]
 pub fn normal_bucket(n: Vec3) -> usize
     ensures { result ≡ normal_bucket n }
 {
@@ -25,23 +28,25 @@ pub fn normal_bucket(n: Vec3) -> usize
     }
 }
 
-// The box from lo to hi, cut into res voxels on each axis.
-pub fn voxels_of(lo: Vec3, hi: Vec3, res: usize) -> Voxels
-    requires { res ≤ 64 }
-    ensures { result ≡ voxels_of lo hi res }
+// The voxels of a box that is cut.
+#[tactic(auto, unfolding(crate::specs::Keys::voxels_of))]
+pub fn voxels_of(cut: Cut) -> Voxels
+    requires { cut.res ≤ 64 }
+    ensures { result ≡ voxels_of cut.lo cut.hi cut.res }
 {
     Voxels {
-        lo: lo,
+        lo: cut.lo,
         inv: Vec3 {
-            x: per_unit(res, lo.x, hi.x),
-            y: per_unit(res, lo.y, hi.y),
-            z: per_unit(res, lo.z, hi.z),
+            x: per_unit(cut.res, cut.lo.x, cut.hi.x),
+            y: per_unit(cut.res, cut.lo.y, cut.hi.y),
+            z: per_unit(cut.res, cut.lo.z, cut.hi.z),
         },
-        res: res,
+        res: cut.res,
     }
 }
 
 // How many voxels a unit of length takes on an axis from lo to hi.
+#[tactic(auto, unfolding(crate::specs::Keys::per_unit))]
 fn per_unit(res: usize, lo: f32, hi: f32) -> f32
     requires { res ≤ 64 }
     ensures { result ≡ per_unit res lo hi }
@@ -51,6 +56,7 @@ fn per_unit(res: usize, lo: f32, hi: f32) -> f32
 
 // The key of a surfel at p with the normal n: in the order of keys x counts first, then y, then z,
 // then the bucket of the normal.
+#[tactic(auto, using(crate::proofs::Numbered::made_few, crate::proofs::Numbered::bucket_below), unfolding(crate::specs::Keys::key_of, vector::specs::Vector::minus))]
 pub fn key_of(v: Voxels, p: Vec3, n: Vec3) -> usize
     requires { Resolved v }
     ensures { result ≡ key_of v p n }
@@ -63,13 +69,13 @@ pub fn key_of(v: Voxels, p: Vec3, n: Vec3) -> usize
 }
 
 // The key of surfel i.
-pub fn surfel_key(v: Voxels, p: &[f32], normals: &[f32], i: usize) -> usize
-    requires resolved { Resolved v }
-    requires i_in_bounds { 3 * i + 2 < length p.now }
-    requires i_in_bounds_2 { 3 * i + 2 < length normals.now }
-    ensures { result ≡ key_at v p.now normals.now i }
+#[tactic(auto, unfolding(crate::specs::Grouping::surfel_key))]
+pub fn surfel_key(d: &Divided, i: usize) -> usize
+    requires { i < d.now.surfels.n }
+    ensures { result ≡ surfel_key d.now.surfels d.now.voxels i }
 {
-    key_of(v, vector_at(p, i), vector_at(normals, i))
+    let s = &d.surfels;
+    key_of(d.voxels, vector_at(s.p, i), vector_at(s.normals, i))
 }
 
 // The vector number i of a flat slice.

@@ -6,13 +6,17 @@
 mod aggregating;
 mod building;
 mod checks;
+mod columns;
 mod entries;
 mod grouping;
 mod keys;
 mod sorting;
+mod surfels;
 
+pub use columns::Columns;
 pub use entries::build_clusters;
 pub use keys::normal_bucket;
+pub use surfels::Surfels;
 use vector::Vec3;
 
 // A group of surfels as one emitter: its centre, its normal, its area, and the radius of a disc with
@@ -23,6 +27,14 @@ pub struct Cluster {
     pub n: Vec3,
     pub area: f32,
     pub radius: f32,
+}
+
+// A box from lo to hi, and into how many voxels each axis of it is cut.
+#[derive(Clone, Copy)]
+pub struct Cut {
+    pub lo: Vec3,
+    pub hi: Vec3,
+    pub res: usize,
 }
 
 // A box cut into res voxels on each axis: where it begins, and how many voxels a unit of length
@@ -47,11 +59,4 @@ pub struct Sums {
 pub struct Clustered {
     pub clusters: usize,
     pub members: usize,
-}
-
-// What the entry answers: refused with a number, or done.
-#[derive(Clone, Copy)]
-pub enum ClustersAnswer {
-    Refused(u32),
-    Done(Clustered),
 }

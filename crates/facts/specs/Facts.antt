@@ -1,5 +1,5 @@
 -- Document 01, 'Twelve facts for proof': each a question, and its answer in document 01's numbers. The questions are asked of the definitions that the contracts cite. Definitions only.
-use Rattle.std.specs.Prelude.{false, List, [], ◌∷◌, ℕ, Float}
+use Rattle.std.specs.Prelude.{false, List, [], ◌∷◌, ℕ, Float, Result, Ok}
 use Rattle.std.specs.Float.{binary32}
 use Rattle.std.specs.Float.Ieee.{neg, round, of_bits, to_bits}
 use Rattle.float.specs.Arithmetic.{0f, 1f}
@@ -9,8 +9,8 @@ use Rattle.vector.specs.Halton.{of_whole, radical_inverse}
 use Rattle.vector.specs.Vector.{vec}
 use Rattle.clusters.specs.Keys.{normal_bucket}
 use Rattle.transfer.specs.Room.{Room, Light, clusters_of, rows_of, room_of, light_of}
-use Rattle.solve.specs.declared.SolveAnswer.{SolveAnswer}
-use Rattle.solve.specs.declared.SolveAnswer.TheVariants.{Done}
+use Rattle.accept.specs.declared.refusal.Refusal.{Refusal}
+use Rattle.solve.specs.declared.SolveStats.{SolveStats}
 use Rattle.solve.specs.Answers.{solve_answer}
 
 -- the decimal p / q: its nearest f32
@@ -49,7 +49,7 @@ pub data Answer : Type 0 where
   value : Float → Answer
   bits : ℕ → Answer
   number : ℕ → Answer
-  solved : SolveAnswer → Answer
+  solved : Result SolveStats Refusal → Answer
 
 -- the answer that the definitions give
 abbrev pub answer_to : Question → Answer
@@ -73,5 +73,5 @@ facts =
     ∷ (bucket (vec (neg 1f) 1f 0f), number 1)
     ∷ (bucket (vec 0f 1f 1f), number 2)
     ∷ (bucket (vec 0f 0f (neg 1f)), number 5)
-    ∷ (solve_q 3, solved (Done (record { bounces = 3; change = decimal 15625 1000000 })))
+    ∷ (solve_q 3, solved (Ok (record { bounces = 3; change = decimal 15625 1000000 })))
     ∷ []

@@ -1,16 +1,15 @@
 // Room Q of document 01, solved with a limit of 7, and with limits of 5 and 2 one after the other.
+use accept::Refusal;
 use float::bits_of;
-use replay::{Words, print_words, refused, short};
-use solve::SolveAnswer;
+use replay::{Words, refused, short};
+use solve::SolveStats;
 use std::io;
+use transfer::{Clusters, Room, Rows};
 
-// Room Q as solves left it: the number that refused the last, 0 if none did, how many bounces it made,
-// its last change, and the light.
+// Room Q as solves left it: what the last answered, and the light.
 #[derive(Clone, Copy)]
 pub struct SolvedQ {
-    pub number: u32,
-    pub bounces: usize,
-    pub change: f32,
+    pub answer: Result<SolveStats, Refusal>,
     pub irr: [f32; 3],
     pub rad: [f32; 3],
     pub light: [f32; 3],
@@ -22,24 +21,25 @@ pub fn limits_of_q(rt: &impl Print) -> io::Result<()> {
     let five = solve_q(5, reset_q());
     let two = solve_q(2, five);
     let seven = solve_q(7, reset_q());
-    rt.println("room Q, limit 5 and then limit 2")?;
-    print_words(rt, words_of(five))?;
-    print_words(rt, words_of(two))?;
-    rt.println("room Q, limit 7")?;
-    print_words(rt, words_of(seven))?;
+    println!(rt; "room Q, limit 5 and then limit 2")?;
+    println!(rt; "{}", words_of(five))?;
+    println!(rt; "{}", words_of(two))?;
+    println!(rt; "room Q, limit 7")?;
+    println!(rt; "{}", words_of(seven))?;
     if alike(five, two, seven) {
-        rt.println("as many bounces, the same last change and light")
+        println!(rt; "as many bounces, the same last change and light")
     } else {
-        rt.println("different")
+        println!(rt; "different")
     }
 }
 
 // Room Q after a reset.
 pub fn reset_q() -> SolvedQ {
     SolvedQ {
-        number: 0,
-        bounces: 0,
-        change: 0.0,
+        answer: Ok(SolveStats {
+            bounces: 0,
+            change: 0.0,
+        }),
         irr: [0.0; 3],
         rad: [1.0; 3],
         light: [0.0; 3],
@@ -51,88 +51,61 @@ pub fn solve_q(limit: usize, q: SolvedQ) -> SolvedQ {
     let mut irr = q.irr;
     let mut rad = q.rad;
     let mut light = q.light;
-    let answer = solve::solve(
-        1,
-        1,
-        1,
-        1,
-        limit,
-        &[0.5, 0.5, 0.5],
-        &[1.0],
-        &[1.0, 1.0, 1.0],
-        &[1.0],
-        &[0],
-        &[1],
-        &[0],
-        &[0, 1],
-        &[0],
-        &[0.5],
-        &mut irr,
-        &mut rad,
-        &mut light,
-    );
-    match answer {
-        SolveAnswer::Refused(number) => SolvedQ {
-            number,
-            bounces: 0,
-            change: 0.0,
-            irr,
-            rad,
-            light,
+    let room = Room {
+        n: 1,
+        albedo: &[0.5, 0.5, 0.5],
+        area: &[1.0],
+        direct: &[1.0, 1.0, 1.0],
+        clusters: Clusters {
+            nc: 1,
+            members: 1,
+            area: &[1.0],
+            first: &[0],
+            count: &[1],
+            member: &[0],
         },
-        SolveAnswer::Done(made) => SolvedQ {
-            number: 0,
-            bounces: made.bounces,
-            change: made.change,
-            irr,
-            rad,
-            light,
+        rows: Rows {
+            links: 1,
+            starts: &[0, 1],
+            cluster: &[0],
+            weight: &[0.5],
         },
+    };
+    let answer = solve::solve(&room, limit, &mut irr, &mut rad, &mut light);
+    SolvedQ {
+        answer,
+        irr,
+        rad,
+        light,
     }
 }
 
 // The twelve words of a solved room.
 fn words_of(q: SolvedQ) -> Words {
-    let irr = q.irr;
-    let rad = q.rad;
-    let light = q.light;
-    let words = refused(q.number)
-        .with(short(q.bounces))
-        .with_float(q.change);
-    let words = words
-        .with_float(irr[0])
-        .with_float(irr[1])
-        .with_float(irr[2]);
-    let words = words
-        .with_float(rad[0])
-        .with_float(rad[1])
-        .with_float(rad[2]);
+    let words = match q.answer {
+        Ok(made) => refused(0).with(short(made.bounces)).with_float(made.change),
+        Err(refusal) => refused(u32::from(refusal)).with(0).with_float(0.0),
+    };
     words
-        .with_float(light[0])
-        .with_float(light[1])
-        .with_float(light[2])
+        .with_vector(vector::at(&q.irr, 0))
+        .with_vector(vector::at(&q.rad, 0))
+        .with_vector(vector::at(&q.light, 0))
 }
 
 // Whether no solve was refused, and two make as many bounces as one, end with the same last change, and
 // leave the same light, bit for bit.
 fn alike(first: SolvedQ, last: SolvedQ, once: SolvedQ) -> bool {
-    let done = (first.number == 0) & (last.number == 0) & (once.number == 0);
-    let bounces = short(first.bounces) as u64 + short(last.bounces) as u64
-        == short(once.bounces) as u64;
-    let change = bits_of(last.change) == bits_of(once.change);
-    let irr = last.irr;
-    let once_irr = once.irr;
-    let rad = last.rad;
-    let once_rad = once.rad;
-    let light = last.light;
-    let once_light = once.light;
-    let same = same_bits(irr, once_irr) & same_bits(rad, once_rad) & same_bits(light, once_light);
-    done & bounces & change & same
+    let (Ok(five), Ok(two), Ok(seven)) = (first.answer, last.answer, once.answer) else {
+        return false;
+    };
+    short(five.bounces) as u64 + short(two.bounces) as u64 == short(seven.bounces) as u64
+        && bits_of(two.change) == bits_of(seven.change)
+        && same_bits(last.irr, once.irr)
+        && same_bits(last.rad, once.rad)
+        && same_bits(last.light, once.light)
 }
 
 // Whether two vectors have the same bits.
 fn same_bits(a: [f32; 3], b: [f32; 3]) -> bool {
-    (bits_of(a[0]) == bits_of(b[0]))
-        & (bits_of(a[1]) == bits_of(b[1]))
-        & (bits_of(a[2]) == bits_of(b[2]))
+    a.map(|x| bits_of(x)) == b.map(|x| bits_of(x))
 }

@@ -1,15 +1,16 @@
 // The largest target of placement, and one more.
-use placement::GenerateAnswer;
-use replay::{Words, print_words, refused, short};
+use placement::Request;
+use replay::{Words, refused, short};
 use std::io;
+use tables::Scene;
 use vector::Vec3;
 
 // Prints what targets of 400,000 and 400,001 are answered with where no slice holds a surfel: 4, since
 // the target is accepted, and 2.
 pub fn largest(rt: &impl Print) -> io::Result<()> {
-    rt.println("targets 400000 and 400001, in slices that are too short")?;
-    print_words(rt, target_of(400_000))?;
-    print_words(rt, target_of(400_001))
+    println!(rt; "targets 400000 and 400001, in slices that are too short")?;
+    println!(rt; "{}", target_of(400_000))?;
+    println!(rt; "{}", target_of(400_001))
 }
 
 // How many surfels are placed with this target and no place for one, or the number of the refusal.
@@ -19,19 +20,25 @@ fn target_of(target: usize) -> Words {
         y: 1.0,
         z: 1.0,
     };
-    let answer = placement::generate(
-        0,
-        0,
-        0,
-        &[],
-        &[],
-        &[],
-        &[],
-        0,
-        &[],
-        Vec3::zero(),
-        one,
+    let scene = Scene {
+        prims: 0,
+        planes: 0,
+        objects: 0,
+        kinds: &[],
+        lengths: &[],
+        plane_parts: &[],
+        object_parts: &[],
+    };
+    let request = Request {
+        scene,
+        mats: 0,
+        materials: &[],
+        lo: Vec3::zero(),
+        hi: one,
         target,
+    };
+    let answer = placement::generate(
+        &request,
         &mut [],
         &mut [],
         &mut [],
@@ -43,7 +50,7 @@ fn target_of(target: usize) -> Words {
         &mut [],
     );
     match answer {
-        GenerateAnswer::Refused(number) => refused(number),
-        GenerateAnswer::Done(count) => refused(0).with(short(count)),
+        Ok(count) => refused(0).with(short(count)),
+        Err(refusal) => refused(u32::from(refusal)),
     }
 }

@@ -1,6 +1,5 @@
 -- What the proofs of several functions use, and the laws that other crates cite.
 pub mod Chosen
-pub mod Subtracted
 pub mod Tests
 pub mod Readings
 pub mod Passed

@@ -1,4 +1,5 @@
 -- What the definitions say, read back: which of two parts is nearer, what NaN and a capsule with equal ends do, what `project` answers, and the empty scene. Assumes nothing.
+use Rattle.std.specs.Prelude.{Option, Some, None}
 use mathlib.Core.Path.{◌≡◌, refl, ◌∙◌, ap, subst}
 use mathlib.Core.Bool.{Bool, true, false, cond}
 use Prim.Native.Nat.{ℕ, zero, suc, ◌+◌}
@@ -17,8 +18,6 @@ use Rattle.sdf.specs.Distance.{dist as shape_dist}
 use Rattle.sdf.proofs.Ends.{equal_ends}
 use Rattle.tables.specs.Tables.{Scene}
 use Rattle.field.specs.declared.DistHit.{DistHit}
-use Rattle.field.specs.declared.Projected.{Projected}
-use Rattle.field.specs.declared.Projected.TheVariants.{On, None}
 use Rattle.field.specs.Nearest.{part_dist, nearer, nearest_part, far, dist_mat, dist}
 use Rattle.field.specs.Gradient.{tap, corner, unit_or_y, normal}
 use Rattle.field.specs.Projection.{confirmed, moved, project_from, project}
@@ -60,16 +59,16 @@ module _ (shape : ℕ → Shape) (b f m : ℕ) (a p : Vec3) (r : Float) (flat : 
 
 module _ (s : Scene) (eps diag : Float) where
   -- an answered point passes both tests
-  abbrev Near : Projected → Type 0
-  Near (On q) = (lt (abs (dist s q)) eps ≡ true) × (le eps (abs (dist s q)) ≡ false)
+  abbrev Near : Option Vec3 → Type 0
+  Near (Some q) = (lt (abs (dist s q)) eps ≡ true) × (le eps (abs (dist s q)) ≡ false)
   Near None = Unit
 
   -- by what the second test gave, and by what the first gave
-  second : (p : Vec3) (b : Bool) → lt (abs (dist s p)) eps ≡ true → le eps (abs (dist s p)) ≡ b → Near (cond b None (On p))
+  second : (p : Vec3) (b : Bool) → lt (abs (dist s p)) eps ≡ true → le eps (abs (dist s p)) ≡ b → Near (cond b None (Some p))
   second p true h e = tt
   second p false h e = (h, e)
 
-  first : (p : Vec3) (r : Projected) (b : Bool) → lt (abs (dist s p)) eps ≡ b → Near r → Near (cond b (confirmed s eps p) r)
+  first : (p : Vec3) (r : Option Vec3) (b : Bool) → lt (abs (dist s p)) eps ≡ b → Near r → Near (cond b (confirmed s eps p) r)
   unfolding confirmed
   first p r true e n = second p _ e refl
   first p r false e n = n
@@ -82,7 +81,7 @@ module _ (s : Scene) (eps diag : Float) where
       first p _ _ refl (chosen Near (finite d) _ _ (chosen Near (lt diag (abs d)) _ _ tt (near_from left (moved s p))) tt)
 
   -- a point that `project` answers is nearer than eps to the surface, and passes the second test
-  pub on_surface : (p q : Vec3) → project s p eps diag ≡ On q → (lt (abs (dist s q)) eps ≡ true) × (le eps (abs (dist s q)) ≡ false)
+  pub on_surface : (p q : Vec3) → project s p eps diag ≡ Some q → (lt (abs (dist s q)) eps ≡ true) × (le eps (abs (dist s q)) ≡ false)
   unfolding project
   on_surface p q e = subst Near e (near_from 10 p)
 

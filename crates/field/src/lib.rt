@@ -2,7 +2,7 @@
 // moved onto the surface.
 //
 // Every public function is total and takes any point. It checks no table: whoever is handed a scene
-// checks it once by `tables::refusal`.
+// checks it once by `tables::Scene::check`.
 #![tactic(auto)]
 
 mod gradient;
@@ -12,18 +12,10 @@ mod projection;
 pub use gradient::normal;
 pub use nearest::{dist, dist_mat};
 pub use projection::project;
-use vector::Vec3;
 
 // A distance, and the material of what lies at it.
 #[derive(Clone, Copy)]
 pub struct DistHit {
     pub d: f32,
     pub mat: u32,
-}
-
-// A point of the surface or none.
-#[derive(Clone, Copy)]
-pub enum Projected {
-    On(Vec3),
-    None,
 }

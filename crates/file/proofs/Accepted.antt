@@ -1,20 +1,22 @@
 -- What a file that is not refused says of itself: its tests passed, it has its columns, and a solve takes its room. Assumes nothing.
 use mathlib.Core.Bool.{Bool, true, and-eq-true_iff}
 use mathlib.Core.List.{List, [], ◌∷◌}
-use mathlib.Core.Path.{◌≡◌, refl}
+use mathlib.Core.Path.{◌≡◌}
 use Prim.Native.Nat.{ℕ, ◌*◌, ◌≤◌}
 use native.Mathlib.Omega.{arith}
 use lib.Dec.{leb, eqb}
 use lib.ListN.{length}
 use borrow.Author.Tests.{le-leb, leb-true, eqb-true}
-use Rattle.accept.specs.Limits.{min_file, max_file, max_surfels}
+use Rattle.std.specs.Prelude.{Ok}
+use Rattle.accept.specs.Limits.{min_file, max_file, max_surfels, max_clusters, max_links, max_bounces}
 use Rattle.accept.specs.Ranges.{coordinates}
 use Rattle.accept.specs.Tables.{at_most, holds}
 use Rattle.accept.proofs.Bounded.{le_holds}
 use Rattle.accept.proofs.Every.{conj_each}
-use Rattle.accept.proofs.Refused.{none_failed}
+use Rattle.accept.proofs.Refused.{none_refused}
 use Rattle.transfer.specs.Checks.{counts_within, surfels_hold, clusters_hold, rows_hold, floats_fit, numbers_fit}
-use Rattle.transfer.specs.Checks.{refusal as solve_refusal}
+use Rattle.std.specs.Prelude.{Ok}
+use Rattle.transfer.specs.Checks.{check as solve_check}
 use Rattle.transfer.proofs.Acceptance.{all_passed}
 use Rattle.file.specs.declared.Column.{Column}
 use Rattle.file.specs.declared.Counts.{Counts}
@@ -24,7 +26,7 @@ use Rattle.file.specs.Blocks.{points, normals, albedos, areas, directs, cluster_
 use Rattle.file.specs.Blocks.{row_starts, link_clusters, link_weights, probe_points, probe_normals}
 use Rattle.file.specs.Columns.{floats_of, inside}
 use Rattle.file.specs.Rooms.{clusters_of_file, rows_of_file, room_of_file, points_of_file, normals_of_file, probes_of_file, box_of_file}
-use Rattle.file.specs.Checks.{formed, few_enough, boxed, floats_pass, numbers_pass, refusal}
+use Rattle.file.specs.Checks.{formed, few_enough, boxed, floats_pass, numbers_pass, check}
 use Rattle.file.specs.Needs.{Ends}
 use Rattle.file.proofs.Entries.{floats_length}
 use Rattle.file.proofs.Listed.{numbers_held, numbers_past}
@@ -41,11 +43,11 @@ pub record Passed (b : List ℕ) (most : ℕ) (lent : Bool) : Type 0 where
   pub floats_passed : floats_pass b ≡ true
   pub numbers_passed : numbers_pass b ≡ true
 
--- the number 0 says so
-pub passed : (b : List ℕ) (most : ℕ) (lent : Bool) → refusal b most lent ≡ 0 → Passed b most lent
-unfolding refusal
+-- that nothing refuses it says so
+pub passed : (b : List ℕ) (most : ℕ) (lent : Bool) → check b most lent ≡ Ok tt → Passed b most lent
+unfolding check
 passed b most lent e =
-    let t = none_failed _ tt e in
+    let t = none_refused _ e in
     record {
       formed_passed = t.0;
       few_passed = t.1.0;
@@ -80,12 +82,39 @@ file_ends b most e =
     in
     (eqb-true (length b) (4 * end_of c) t.1.1.1.1.1.1.1.1.1.1.0, leb-true (length b) most t.1.0)
 
+-- counts within their limits do not take many words
+few_end : (c : Counts) → few_enough c ≡ true → end_of c ≤ 1099511627776
+unfolding few_enough counts_within
+few_end c e =
+    let both = (and-eq-true_iff (counts_within c.surfels c.clusters c.members c.links c.limit) (at_most c.probes max_surfels)).0 e in
+    let t =
+    conj_each
+    (at_most c.surfels max_surfels
+    ∷ at_most c.clusters max_clusters
+    ∷ at_most c.members max_surfels
+    ∷ at_most c.links max_links
+    ∷ at_most c.limit max_bounces
+    ∷ [])
+    both.0
+    in
+    omega (
+      arith,
+      leb-true c.surfels max_surfels t.0,
+      leb-true c.clusters max_clusters t.1.0,
+      leb-true c.members max_surfels t.1.1.0,
+      leb-true c.links max_links t.1.1.1.0,
+      leb-true c.probes max_surfels both.1,
+    )
+
 -- and it has the words that its counts say, where they are not too many
-pub formed_ends : (b : List ℕ) (most : ℕ) {c : Counts} → c ≡ counts_in b → end_of c ≤ 1099511627776 → formed b most ≡ true → Ends b c
-formed_ends b most {c} e h f =
+formed_ends : (b : List ℕ) (most : ℕ) → end_of (counts_in b) ≤ 1099511627776 → formed b most ≡ true → Ends b (counts_in b)
+formed_ends b most h f =
     let k : words b ≡ end_of (counts_in b) = omega (arith, (file_ends b most f).0) in
-    let m : words b ≡ end_of c = rw e k in
-    record { few = omega (arith, m, h); whole = omega (arith, m) }
+    record { few = omega (arith, k, h); whole = omega (arith, k) }
+
+-- as where the first two tests passed
+pub checked_ends : (b : List ℕ) (most : ℕ) → formed b most ≡ true → few_enough (counts_in b) ≡ true → Ends b (counts_in b)
+checked_ends b most f e = formed_ends b most (few_end (counts_in b) e) f
 
 -- ---- the columns of a file that is formed, and no longer than a room file may be
 
@@ -94,7 +123,7 @@ module _ (b : List ℕ) (most : ℕ) (e : formed b most ≡ true) (h : most ≤ 
   formed_few = omega (arith, (file_ends b most e).1)
 
   pub ends : Ends b (counts_in b)
-  ends = formed_ends b most refl (omega (arith, (file_ends b most e).0, formed_few)) e
+  ends = formed_ends b most (omega (arith, (file_ends b most e).0, formed_few)) e
 
   tested : {col : Column} → Standing b col → inside b col ≡ true
   tested k = stands_tested formed_few k
@@ -159,8 +188,8 @@ module _ (b : List ℕ) where
   counts_passed e =
       ((and-eq-true_iff (counts_within c.surfels c.clusters c.members c.links c.limit) (at_most c.probes max_surfels)).0 e).0
 
-  surfels_passed : surfels_hold c.surfels (floats_of b (albedos c)) (floats_of b (areas c)) (floats_of b (directs c)) (3 * c.surfels) (3 * c.surfels) ≡ true
-  unfolding surfels_hold
+  surfels_passed : surfels_hold (room_of_file b) (3 * c.surfels) (3 * c.surfels) ≡ true
+  unfolding surfels_hold room_of_file
   surfels_passed =
       rw (
         floats_held b (albedos c) c.surfels 3 (omega arith),
@@ -189,8 +218,7 @@ module _ (b : List ℕ) where
         floats_enough b (link_weights c) c.links (omega arith),
       )
 
-  floats_fit_lem : floats_pass b ≡ true
-      → let r = room_of_file b in floats_fit r.n r.clusters.nc r.rows.links r.albedo r.area r.direct r.clusters.area r.rows.weight ≡ true
+  floats_fit_lem : floats_pass b ≡ true → floats_fit (room_of_file b) ≡ true
   unfolding floats_pass
   floats_fit_lem e =
       let r = room_of_file b in
@@ -198,22 +226,20 @@ module _ (b : List ℕ) where
       (conj_each
       (coordinates (points_of_file b) r.n
       ∷ coordinates (normals_of_file b) r.n
-      ∷ floats_fit r.n r.clusters.nc r.rows.links r.albedo r.area r.direct r.clusters.area r.rows.weight
+      ∷ floats_fit r
       ∷ coordinates q.p q.count
       ∷ coordinates q.normals q.count
       ∷ [])
       e
       ).1.1.0
 
-  numbers_fit_lem : numbers_pass b ≡ true
-      → let r = room_of_file b in numbers_fit r.n r.clusters.nc r.clusters.members r.rows.links r.clusters.first r.clusters.count r.clusters.member r.rows.starts
-      r.rows.cluster ≡ true
+  numbers_fit_lem : numbers_pass b ≡ true → numbers_fit (room_of_file b) ≡ true
   unfolding numbers_pass
   numbers_fit_lem e = e
 
 -- a solve of its room is not refused
-pub solve_accepts : (b : List ℕ) (most : ℕ) (lent : Bool) → refusal b most lent ≡ 0
-    → let c = counts_in b in solve_refusal (room_of_file b) c.limit (3 * c.surfels) (3 * c.surfels) (3 * c.clusters) ≡ 0
+pub solve_accepts : (b : List ℕ) (most : ℕ) (lent : Bool) → check b most lent ≡ Ok tt
+    → let c = counts_in b in solve_check (room_of_file b) c.limit (3 * c.surfels) (3 * c.surfels) (3 * c.clusters) ≡ Ok tt
 unfolding room_of_file clusters_of_file rows_of_file
 solve_accepts b most lent e =
     let p = passed b most lent e in

@@ -1,26 +1,23 @@
 -- The columns of a room file as lists: how long they are, what stands where, and a column that lies in its file. Assumes nothing.
 use mathlib.Core.Bool.{Bool, true, false, and-eq-true_iff}
-use mathlib.Core.List.{List, [], ◌∷◌, append-nil}
+use mathlib.Core.List.{List, [], ◌∷◌, ◌++◌, append-nil}
 use mathlib.Core.Path.{◌≡◌, refl, sym, ap, subst, ◌∙◌}
 use Prim.Native.Nat.{ℕ, suc, ◌+◌, ◌*◌, ◌≤◌, ◌<◌}
 use native.Mathlib.Nat.{mul-suc, mul_comm, mul-le-mul, mul-le-mul_left}
-use native.Mathlib.Numerals.{add-one}
 use native.Mathlib.Omega.{arith}
 use lib.Dec.{leb}
 use lib.Ieee.{Float, nan}
-use lib.ListN.{length, get_or, set, drop, drop_of_length-le}
-use lib.Seq.{sets, get_or-drop, get_or-take}
+use lib.ListN.{length, get_or, drop, drop_of_length-le}
+use lib.Seq.{get_or-drop, get_or-take}
 use borrow.Author.Tests.{leb-true, lt-leb, le-leb}
 use Rattle.float.specs.Column.{float_at}
 use Rattle.vector.specs.Flat.{rows, replaced}
-use Rattle.vector.proofs.Replaced.{length_rows, replaced_none, replaced_more, row_written, at_filled}
-use Rattle.vector.proofs.Stored.{rows_stored}
-use Rattle.accept.specs.Every.{every, conj}
+use Rattle.vector.proofs.Replaced.{length_rows, row_written, at_filled}
+use Rattle.accept.specs.Every.{conj}
 use Rattle.accept.specs.Limits.{max_file}
-use Rattle.accept.specs.Ranges.{within, all_within, floats_within}
 use Rattle.accept.specs.Tables.{number_at, holds}
 use Rattle.accept.proofs.Bounded.{le_holds}
-use Rattle.accept.proofs.Every.{every_same, every_product, conj_each}
+use Rattle.accept.proofs.Every.{conj_each}
 use Rattle.file.specs.declared.Column.{Column}
 use Rattle.file.specs.declared.Counts.{Counts}
 use Rattle.file.specs.Words.{words, word_in, float_in}
@@ -42,11 +39,6 @@ single_length g n = let h = length_rows 1 (λ i. g i ∷ []) (λ i. refl) n in o
 -- and element j of them stands at place j
 single_at : {A : Type 0} (g : ℕ → A) (n j : ℕ) (d : A) → j < n → get_or (rows (λ i. g i ∷ []) n) j d ≡ g j
 single_at {A} g n j d h = ap (λ (l : List A). get_or l j d) (sym (rows_alone 1 (λ i. g i ∷ []) n [] (omega arith))) ∙ at_filled g n j [] d h
-
--- d has n single elements stored from place i on, and e has the next stored after them
-pub single_stored : {A : Type 0} (g : ℕ → A) (n i : ℕ) (l : List A) {d e : List A} {x : A}
-    → d ≡ sets l i (rows (λ k. g k ∷ []) n) → x ≡ g n → e ≡ set d (i + n) x → e ≡ sets l i (rows (λ k. g k ∷ []) (n + 1))
-single_stored g n i l {d} {e} p q r = (rows_stored (λ k. g k ∷ []) n i l {d = d} {e = e} {k = i + n} p (rw (single_length g n)) (rw (r, q))).0
 
 -- an entry of w places, before the last, ends where the next begins
 pub next_entry : (w i n : ℕ) → i < n → w * i + w ≤ w * n
@@ -83,6 +75,18 @@ module _ (b : List ℕ) (col : Column) where
       rows_alone 1 (λ i. word_in b (entry_from col i) ∷ []) col.count l (omega arith)
       ∙ sym (rows_alone 1 (λ i. word_in b (entry_from col i) ∷ []) col.count [] (omega arith))
 
+  -- and it is put in front of a list of any length
+  pub floats_put : (l : List Float) → floats_of b col ++ drop (length (floats_of b col)) l ≡ floats_over b col l
+  unfolding floats_of replaced
+  floats_put l =
+      rw (floats_length, rows_alone col.width (entry_floats b col) col.count [] (omega arith))
+
+  pub numbers_put : (l : List ℕ) → numbers_of b col ++ drop (length (numbers_of b col)) l ≡ numbers_over b col l
+  unfolding numbers_of replaced
+  numbers_put l =
+      let one : 1 * col.count ≡ col.count = omega arith in
+      rw (numbers_length, rows_alone 1 (λ i. word_in b (entry_from col i) ∷ []) col.count [] (omega arith), one)
+
   -- float j of entry i
   pub float_at_lem : (i j : ℕ) → i < col.count → j < col.width → float_at (floats_of b col) (col.width * i + j) ≡ float_in b (entry_from col i + j)
   unfolding floats_of
@@ -96,14 +100,6 @@ module _ (b : List ℕ) (col : Column) where
   pub number_at_lem : (i : ℕ) → i < col.count → number_at (numbers_of b col) i ≡ word_in b (entry_from col i)
   unfolding numbers_of
   number_at_lem i h = at_filled (λ k. word_in b (entry_from col k)) col.count i [] 0 h
-
-  -- the floats of i entries in the front of a list, and one entry more
-  pub floats_none : (l : List Float) → l ≡ replaced col.width (entry_floats b col) 0 l
-  floats_none = replaced_none col.width (entry_floats b col) entry_length
-
-  pub floats_more : (i : ℕ) (l : List Float) {d e : List Float} → d ≡ replaced col.width (entry_floats b col) i l → col.width * i + col.width ≤ length l
-      → e ≡ sets d (col.width * i) (entry_floats b col i) → e ≡ replaced col.width (entry_floats b col) (i + 1) l
-  floats_more i l p h q = rw (q, p, add-one i) (replaced_more col.width (entry_floats b col) entry_length i l h)
 
   -- ---- a column that lies in its file
 
@@ -147,27 +143,11 @@ module _ (b : List ℕ) (col : Column) where
       let end : col.from + col.step * col.count + col.width ≤ words b + col.step = leb-true _ _ both.1 in
       record {
         few = omega arith;
-        step_few = n.step_few;
         some = n.some;
         width_few = omega arith;
         count_few = n.count_few;
-        last = omega arith;
         each = λ i k. let m = next_entry col.step i col.count k in omega arith;
       }
-
--- ---- tests of all floats of a column, entry by entry
-
--- the floats of a column are in their range where those of each entry are
-pub column_within : (b : List ℕ) (col : Column) (lo hi : Float)
-    → floats_within (floats_of b col) col.count col.width lo hi ≡ every (λ i. all_within (λ j. float_in b (entry_from col i + j)) col.width lo hi) col.count
-unfolding all_within
-column_within b col lo hi =
-    let l = floats_of b col in
-    let n = floats_length b col in
-    let m = mul_comm col.width col.count in
-    rw (le_holds (length l) col.count col.width (omega arith))
-    (every_product (λ k. within (float_at l k) lo hi) col.count col.width
-    ∙ every_same _ _ col.count (λ i h. every_same _ _ col.width (λ j k. rw (float_at_lem b col i j h k))))
 
 -- ---- a column that was read
 

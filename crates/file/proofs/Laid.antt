@@ -2,8 +2,8 @@
 use mathlib.Core.Bool.{true}
 use mathlib.Core.List.{List, [], ◌∷◌}
 use mathlib.Core.Path.{◌≡◌, refl}
-use Prim.Native.Nat.{ℕ, suc, ◌+◌, ◌*◌, ◌≤◌}
-use native.Mathlib.Nat.{mul_comm, mul-suc, mul-le-mul_left, le-mul_of_pos_right}
+use Prim.Native.Nat.{ℕ, ◌+◌, ◌*◌, ◌≤◌}
+use native.Mathlib.Nat.{mul_comm, le-mul_of_pos_right}
 use native.Mathlib.Omega.{arith}
 use lib.Dec.{leb}
 use lib.ListN.{length}
@@ -18,7 +18,7 @@ use Rattle.file.specs.Blocks.{column_of, surfels_from, clusters_from, members_fr
 use Rattle.file.specs.Blocks.{points, normals, albedos, areas, directs, cluster_areas, firsts, member_counts, members}
 use Rattle.file.specs.Blocks.{row_starts, link_clusters, link_weights, probe_points, probe_normals}
 use Rattle.file.specs.Columns.{inside}
-use Rattle.file.specs.Needs.{Inside, Ends}
+use Rattle.file.specs.Needs.{Ends}
 
 -- a column whose entries a file has all: `width` words of each, `step` words from one to the next
 pub record Standing (b : List ℕ) (col : Column) : Type 0 where
@@ -28,22 +28,7 @@ pub record Standing (b : List ℕ) (col : Column) : Type 0 where
   pub count_few : col.count ≤ words b
   pub last : col.from + col.step * col.count + col.width ≤ words b + col.step
 
--- it lies in the file
-pub stands_inside : {b : List ℕ} {col : Column} → words b ≤ 1099511627776 → Standing b col → Inside b col
-stands_inside {b} {col} h k = record {
-  few = h;
-  step_few = k.step_few;
-  some = k.some;
-  width_few = omega (arith, k);
-  count_few = k.count_few;
-  last = omega (arith, k);
-  each = λ i j. omega (arith, k, mul-suc col.step i, mul-le-mul_left {m = suc i} {n = col.count} col.step j);
-}
-
-pub ends_inside : {b : List ℕ} {c : Counts} {col : Column} → Ends b c → Standing b col → Inside b col
-ends_inside e k = stands_inside (omega (arith, e)) k
-
--- it passes the test of that
+-- it lies in the file, by the test of that
 pub stands_tested : {b : List ℕ} {col : Column} → length b ≤ max_file → Standing b col → inside b col ≡ true
 unfolding inside
 stands_tested {b} {col} h k =

@@ -4,4 +4,3 @@ pub mod Entries
 pub mod Listed
 pub mod Laid
 pub mod Accepted
-pub mod Answered

@@ -1,9 +1,11 @@
 -- Whether a room file is accepted: document 01, 'Refused calls', 1, 2, 3, 5 and 7. The tests of what it holds are those of a solve and a reading. Definitions only.
-use Rattle.std.specs.Prelude.{Bool, ◌&&◌, List, [], ◌∷◌, ℕ, ◌*◌, leb, eqb, length}
+use Rattle.std.specs.Prelude.{Bool, ◌&&◌, List, [], ◌∷◌, ℕ, ◌*◌, leb, eqb, length, Result}
 use Rattle.accept.specs.Every.{conj}
 use Rattle.accept.specs.Limits.{max_surfels, min_file}
 use Rattle.accept.specs.Ranges.{coordinates}
-use Rattle.accept.specs.Refusal.{first_failed}
+use Rattle.accept.specs.Refusal.{checked}
+use Rattle.accept.specs.declared.refusal.Refusal.{Refusal}
+use Rattle.accept.specs.declared.refusal.Refusal.TheVariants as refusal
 use Rattle.accept.specs.Tables.{at_most}
 use Rattle.grid.specs.Checks.{sized}
 use Rattle.surfel.specs.Checks.{radius_within}
@@ -48,23 +50,26 @@ floats_pass b =
     let q = probes_of_file b in
     conj (coordinates (points_of_file b) r.n
     ∷ coordinates (normals_of_file b) r.n
-    ∷ floats_fit r.n r.clusters.nc r.rows.links r.albedo r.area r.direct r.clusters.area r.rows.weight
+    ∷ floats_fit r
     ∷ coordinates q.p q.count
     ∷ coordinates q.normals q.count
     ∷ [])
 
 -- 7: the numbers of the room fit together as a solve needs them
 unfoldable pub numbers_pass : List ℕ → Bool
-numbers_pass b =
-    let r = room_of_file b in
-    numbers_fit r.n r.clusters.nc r.clusters.members r.rows.links r.clusters.first r.clusters.count r.clusters.member r.rows.starts
-    r.rows.cluster
+numbers_pass b = numbers_fit (room_of_file b)
 
--- the tests in their order, each with its number; a file of over `most` bytes fails the first, and the call's own test of 4 is `lent`
-abbrev pub tests : List ℕ → ℕ → Bool → List (ℕ × Bool)
+-- the tests in their order, each with the refusal of a file that fails it; a file of over `most` bytes fails the first, and the call's own test of `Length` is `lent`
+abbrev pub tests : List ℕ → ℕ → Bool → List (Refusal × Bool)
 tests b most lent =
-    (1, formed b most) ∷ (2, few_enough (counts_in b)) ∷ (3, boxed (box_of_file b)) ∷ (4, lent) ∷ (5, floats_pass b) ∷ (7, numbers_pass b) ∷ []
+    (refusal.File, formed b most)
+    ∷ (refusal.Count, few_enough (counts_in b))
+    ∷ (refusal.Range, boxed (box_of_file b))
+    ∷ (refusal.Length, lent)
+    ∷ (refusal.Float, floats_pass b)
+    ∷ (refusal.Numbers, numbers_pass b)
+    ∷ []
 
--- the number that refuses the file, 0 if none does
-unfoldable pub refusal : List ℕ → ℕ → Bool → ℕ
-refusal b most lent = first_failed (tests b most lent)
+-- what refuses the file, if anything does
+unfoldable pub check : List ℕ → ℕ → Bool → Result Unit Refusal
+check b most lent = checked (tests b most lent)

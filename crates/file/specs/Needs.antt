@@ -6,14 +6,12 @@ use Rattle.file.specs.Words.{words}
 use Rattle.file.specs.Columns.{entry_from}
 use Rattle.file.specs.Blocks.{end_of}
 
--- each entry of a column lies in the file, and where the next one would begin is not far behind it
+-- each entry of a column lies in the file, and no sum of places wraps
 pub record Inside (b : List ℕ) (col : Column) : Type 0 where
   pub few : words b ≤ 1099511627776
-  pub step_few : col.step ≤ 16
   pub some : 1 ≤ col.width
   pub width_few : col.width ≤ 16
   pub count_few : col.count ≤ words b
-  pub last : entry_from col col.count ≤ words b + 16
   pub each : (i : ℕ) → i < col.count → entry_from col i + col.width ≤ words b
 
 -- the file has the words that its counts say, and not so many (2^40) that a sum of places would wrap

@@ -1,121 +1,130 @@
-// Which number refuses a room file.
+// Why a room file is refused.
 ghost use Rattle.std.specs.Prelude.{◌≡◌};
+ghost use Rattle.accept.specs.Ranges.{floats_within};
 ghost use Rattle.file.specs.Blocks.{counts_in};
-ghost use Rattle.file.specs.Checks.{formed, few_enough, boxed, floats_pass, numbers_pass, refusal};
-ghost use Rattle.file.specs.Needs.{Ends};
+ghost use Rattle.file.specs.Columns.{floats_of};
+ghost use Rattle.file.specs.Checks.{formed, few_enough, boxed, floats_pass, numbers_pass, check};
+ghost use Rattle.file.specs.Needs.{Ends, Inside};
 
-use crate::floats::column_within;
-use crate::header::{
-    clusters_from, counts_in, end_of, links_from, members_from, probe_box, probes_from,
-    starts_from, surfels_from,
-};
-use crate::numbers::{links_ascend, numbers_below, ranges_contiguous};
 use crate::words::word_at;
-use crate::{Counts, ProbeBox, columns};
+use crate::{Column, Counts, ProbeBox, RoomFile};
 use accept::limits::{
     MAX_ALBEDO, MAX_AMOUNT, MAX_BOUNCES, MAX_CLUSTER_AREA, MAX_CLUSTERS, MAX_COORDINATE, MAX_LINKS,
     MAX_SURFELS, MAX_WEIGHT, MIN_FILE,
 };
-use accept::{at_most, unless, wide};
-use grid::sized;
+use accept::{
+    Refusal, at_most, floats_within, links_ascend, numbers_below, ranges_contiguous, require, wide,
+};
 use surfel::radius_within;
 
-// The number that refuses a file of at most `most` bytes, 0 if none does. The call's own test of 4
-// is handed in.
-pub fn refusal(bytes: &[u8], most: usize, lent: bool) -> u32
-    ensures { result ≡ refusal bytes.now most lent }
-{
-    if !formed(bytes, most) {
-        return 1;
+impl RoomFile<'_> {
+    // What refuses a file of at most `most` bytes, if anything does. The call's own test of
+    // `Length` is handed in.
+    #[tactic(auto, unfolding(crate::specs::Checks::check, accept::specs::Refusal::checked))]
+    pub fn check(&self, most: usize, lent: bool) -> Result<(), Refusal>
+        ensures { result ≡ check self.now most lent }
+    {
+        require(self.formed(most), Refusal::File)?;
+        require(self.counts.few_enough(), Refusal::Count)?;
+        require(self.probe_box().in_range(), Refusal::Range)?;
+        require(lent, Refusal::Length)?;
+        require(self.floats_pass(), Refusal::Float)?;
+        require(self.numbers_pass(), Refusal::Numbers)
     }
-    let c = counts_in(bytes);
-    let sizes = unless(boxed(probe_box(bytes)), 3, unless(lent, 4, 0));
-    let number = unless(few_enough(c), 2, sizes);
-    if number == 0 {
-        unless(
-            floats_pass(bytes, c),
-            5,
-            unless(numbers_pass(bytes, c), 7, 0),
-        )
-    } else {
-        number
+
+    // Whether it has from 64 to `most` bytes, form 1, the offsets and the length that its counts
+    // give, and zeros in its spare words.
+    #[tactic(auto, unfolding(crate::specs::Checks::formed))]
+    fn formed(&self, most: usize) -> bool
+        ensures { result ≡ formed self.now most }
+    {
+        let bytes = self.bytes;
+        let c = self.counts;
+        let end = 4 * c.end_of();
+        (MIN_FILE <= bytes.len())
+            & (bytes.len() <= most)
+            & (word_at(bytes, 0) == 1)
+            & (wide(word_at(bytes, 7)) == 4 * c.surfels_from())
+            & (wide(word_at(bytes, 8)) == 4 * c.clusters_from())
+            & (wide(word_at(bytes, 9)) == 4 * c.members_from())
+            & (wide(word_at(bytes, 10)) == 4 * c.starts_from())
+            & (wide(word_at(bytes, 11)) == 4 * c.links_from())
+            & (wide(word_at(bytes, 12)) == 4 * c.probes_from())
+            & (wide(word_at(bytes, 13)) == end)
+            & (bytes.len() == end)
+            & (word_at(bytes, 14) == 0)
+            & (word_at(bytes, 15) == 0)
+    }
+
+    // Whether the floats of a file that ends where its counts say are in their range.
+    #[tactic(auto, unfolding(crate::specs::Checks::floats_pass, transfer::specs::Checks::floats_fit, crate::specs::Rooms::room_of_file, crate::specs::Rooms::clusters_of_file, crate::specs::Rooms::rows_of_file, crate::specs::Rooms::probes_of_file))]
+    fn floats_pass(&self) -> bool
+        requires { Ends self.now (counts_in self.now) }
+        ensures { result ≡ floats_pass self.now }
+    {
+        let c = self.counts;
+        let most = MAX_COORDINATE;
+        let points = self.column_within(c.points(), -most, most);
+        let facing = self.column_within(c.normals(), -most, most);
+        let albedo = self.column_within(c.albedos(), 0.0, MAX_ALBEDO);
+        let area = self.column_within(c.areas(), 0.0, MAX_AMOUNT);
+        let direct = self.column_within(c.directs(), 0.0, MAX_AMOUNT);
+        let clusters = self.column_within(c.cluster_areas(), 0.0, MAX_CLUSTER_AREA);
+        let weights = self.column_within(c.link_weights(), 0.0, MAX_WEIGHT);
+        let probes = self.column_within(c.probe_points(), -most, most);
+        let probes_facing = self.column_within(c.probe_normals(), -most, most);
+        let room = albedo & area & direct & clusters & weights;
+        points & facing & room & probes & probes_facing
+    }
+
+    // Whether the numbers of a file that ends where its counts say fit together.
+    #[tactic(auto, unfolding(crate::specs::Checks::numbers_pass, transfer::specs::Checks::numbers_fit, crate::specs::Rooms::room_of_file, crate::specs::Rooms::clusters_of_file, crate::specs::Rooms::rows_of_file))]
+    fn numbers_pass(&self) -> bool
+        requires { Ends self.now (counts_in self.now) }
+        ensures { result ≡ numbers_pass self.now }
+    {
+        let c = self.counts;
+        let starts = self.column(c.row_starts());
+        let links = self.column(c.link_clusters());
+        let rows = links_ascend(starts, wide(c.surfels), links, wide(c.links));
+        let linked = numbers_below(links, wide(c.links), wide(c.clusters));
+        let firsts = self.column(c.firsts());
+        let counts = self.column(c.member_counts());
+        let ranges = ranges_contiguous(firsts, counts, wide(c.clusters), wide(c.members));
+        let members = self.column(c.members());
+        rows & linked & ranges & numbers_below(members, wide(c.members), wide(c.surfels))
+    }
+
+    // Whether each float of a column is from lo to hi.
+    fn column_within(&self, place: Column, lo: f32, hi: f32) -> bool
+        requires { Inside self.now place }
+        ensures { result ≡ floats_within (floats_of self.now place) place.count place.width lo hi }
+    {
+        floats_within(self.column(place), place.count, place.width, lo, hi)
     }
 }
 
-// Whether a file has from 64 to `most` bytes, form 1, the offsets and the length that its counts
-// give, and zeros in its spare words.
-fn formed(bytes: &[u8], most: usize) -> bool
-    ensures { result ≡ formed bytes.now most }
-{
-    let c = counts_in(bytes);
-    let end = 4 * end_of(c);
-    (MIN_FILE <= bytes.len())
-        & (bytes.len() <= most)
-        & (word_at(bytes, 0) == 1)
-        & (wide(word_at(bytes, 7)) == 4 * surfels_from())
-        & (wide(word_at(bytes, 8)) == 4 * clusters_from(c))
-        & (wide(word_at(bytes, 9)) == 4 * members_from(c))
-        & (wide(word_at(bytes, 10)) == 4 * starts_from(c))
-        & (wide(word_at(bytes, 11)) == 4 * links_from(c))
-        & (wide(word_at(bytes, 12)) == 4 * probes_from(c))
-        & (wide(word_at(bytes, 13)) == end)
-        & (bytes.len() == end)
-        & (word_at(bytes, 14) == 0)
-        & (word_at(bytes, 15) == 0)
+impl Counts {
+    // Whether the counts and the limit of bounces are within theirs.
+    #[tactic(auto, unfolding(crate::specs::Checks::few_enough, transfer::specs::Checks::counts_within))]
+    fn few_enough(self) -> bool
+        ensures { result ≡ few_enough self }
+    {
+        at_most(wide(self.surfels), MAX_SURFELS)
+            & at_most(wide(self.clusters), MAX_CLUSTERS)
+            & at_most(wide(self.members), MAX_SURFELS)
+            & at_most(wide(self.links), MAX_LINKS)
+            & at_most(wide(self.limit), MAX_BOUNCES)
+            & at_most(wide(self.probes), MAX_SURFELS)
+    }
 }
 
-// Whether the counts and the limit of bounces are within theirs.
-fn few_enough(c: Counts) -> bool
-    ensures { result ≡ few_enough c }
-{
-    let lists = at_most(wide(c.surfels), MAX_SURFELS)
-        & at_most(wide(c.clusters), MAX_CLUSTERS)
-        & at_most(wide(c.members), MAX_SURFELS)
-        & at_most(wide(c.links), MAX_LINKS)
-        & at_most(wide(c.limit), MAX_BOUNCES);
-    lists & at_most(wide(c.probes), MAX_SURFELS)
-}
-
-// Whether the box, the side of a cell and the radius are in their range.
-fn boxed(x: ProbeBox) -> bool
-    ensures { result ≡ boxed x }
-{
-    sized(x.lo, x.hi, x.cell) & radius_within(x.radius)
-}
-
-// Whether the floats of a file that ends where its counts say are in their range.
-fn floats_pass(bytes: &[u8], c: Counts) -> bool
-    requires c_value { c ≡ counts_in bytes.now }
-    requires ends { Ends bytes.now c }
-    ensures { result ≡ floats_pass bytes.now }
-{
-    let most = MAX_COORDINATE;
-    let points = column_within(bytes, columns::points(c), -most, most);
-    let facing = column_within(bytes, columns::normals(c), -most, most);
-    let albedo = column_within(bytes, columns::albedos(c), 0.0, MAX_ALBEDO);
-    let area = column_within(bytes, columns::areas(c), 0.0, MAX_AMOUNT);
-    let direct = column_within(bytes, columns::directs(c), 0.0, MAX_AMOUNT);
-    let clusters = column_within(bytes, columns::cluster_areas(c), 0.0, MAX_CLUSTER_AREA);
-    let weights = column_within(bytes, columns::link_weights(c), 0.0, MAX_WEIGHT);
-    let probes = column_within(bytes, columns::probe_points(c), -most, most);
-    let probes_facing = column_within(bytes, columns::probe_normals(c), -most, most);
-    let room = albedo & area & direct & clusters & weights;
-    points & facing & room & probes & probes_facing
-}
-
-// Whether the numbers of a file that ends where its counts say fit together.
-fn numbers_pass(bytes: &[u8], c: Counts) -> bool
-    requires c_value { c ≡ counts_in bytes.now }
-    requires ends { Ends bytes.now c }
-    ensures { result ≡ numbers_pass bytes.now }
-{
-    let starts = columns::row_starts(c);
-    let links = columns::link_clusters(c);
-    let rows = links_ascend(bytes, starts, wide(c.surfels), links);
-    let linked = numbers_below(bytes, links, wide(c.clusters));
-    let firsts = columns::firsts(c);
-    let counts = columns::member_counts(c);
-    let ranges = ranges_contiguous(bytes, firsts, counts, wide(c.members));
-    let members = numbers_below(bytes, columns::members(c), wide(c.surfels));
-    rows & linked & ranges & members
+impl ProbeBox {
+    // Whether the box, the side of a cell and the radius are in their range.
+    #[tactic(auto, unfolding(crate::specs::Checks::boxed))]
+    fn in_range(self) -> bool
+        ensures { result ≡ boxed self }
+    {
+        self.space().sized() & radius_within(self.radius)
+    }
 }

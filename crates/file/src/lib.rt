@@ -7,15 +7,30 @@
 mod blocks;
 mod checks;
 mod columns;
-mod floats;
 mod header;
-mod numbers;
+mod lying;
 mod words;
 
-pub use blocks::{read_clusters, read_points, read_probes, read_rows, read_surfaces};
-pub use checks::refusal;
-pub use header::{counts_in, probe_box};
+use std::marker::Model;
 use vector::Vec3;
+
+// A room file: its bytes, and the counts that it says it has.
+#[derive(Drop)]
+pub struct RoomFile<'a> {
+    bytes: &'a [u8],
+    counts: Counts,
+}
+
+impl<'a> Model for RoomFile<'a> {
+    ghost use Rattle.std.specs.Prelude.{◌≡◌, ℕ, List};
+    ghost use Rattle.file.specs.Blocks.{counts_in};
+
+    ghost Value = { List ℕ };
+
+    ghost view = { λ f. f.bytes.now };
+
+    ghost invariant = { λ f. f.counts ≡ counts_in f.bytes.now };
+}
 
 // How many surfels, clusters, members, links and probes a file says it has, and the limit of
 // bounces.
@@ -39,8 +54,8 @@ pub struct ProbeBox {
     pub radius: f32,
 }
 
-// A column of a file, in words: `width` words of each of `count` entries, those of the first from
-// `from` on, those of the next `step` later.
+// Where a column of a file stands, in words: `width` words of each of `count` entries, those of the
+// first from `from` on, those of the next `step` later.
 #[derive(Clone, Copy)]
 pub struct Column {
     pub from: usize,

@@ -41,7 +41,5 @@ pub fn word(bytes: &[u8], k: usize) -> u32
     ensures { result ≡ word_in bytes.now k }
 {
     let at = 4 * k;
-    let low = bytes[at] as u32 + 256 * (bytes[at + 1] as u32);
-    let high = bytes[at + 2] as u32 + 256 * (bytes[at + 3] as u32);
-    low + 65536 * high
+    u32::from_le_bytes([bytes[at], bytes[at + 1], bytes[at + 2], bytes[at + 3]])
 }

@@ -2,12 +2,12 @@
 use Rattle.std.proofs.Common.{◌≡◌, ℕ, zero, suc, ◌+◌, ◌-◌, ◌*◌, ◌/◌, ◌%◌, ◌^◌, ◌<◌, ◌≤◌, Bool, true, false, cond, not, T, eqb, ltb, leb, ◌⊎◌, sym, refl, ap, ◌∙◌, subst, inl, inr, zero-lt-suc, mul-pos, arith, le→leb, nltb→le, pow_pos}
 use mathlib.Core.Bool.{false≢true}
 use lib.Bits.{bit_and, and_mask}
-use lib.Ieee.{Float, nan, inf, fin, binary32, odd, fits, is_nan, ne, of_fields, of_bits, to_bits}
+use lib.Ieee.{Float, nan, inf, fin, binary32, odd, fits, is_nan, of_fields, of_bits, to_bits}
 use lib.Ieee.Bits.{is_true, of_bits-to_bits, to_bits-lt, nan_bits_is, nan_bits_above}
 use lib.Ieee.Exact.{HasValue, odd_sign}
 use Rattle.float.specs.Root.{square_root}
 use Rattle.float.proofs.Numbers.{here_or_on}
-use Rattle.float.proofs.Nans.{differs}
+use Rattle.float.proofs.Nans.{nan_only}
 use Rattle.float.proofs.Patterns.{of_bits_is, no_value}
 
 -- ---- NaN
@@ -15,8 +15,8 @@ sqrt_nan : square_root nan ≡ nan
 unfolding square_root
 sqrt_nan = refl
 
-pub of_nan : (x : Float) → ne x x ≡ true → x ≡ square_root x
-of_nan x e = subst (λ (y : Float). y ≡ square_root y) (differs x e) (sym sqrt_nan)
+pub of_nan : (x : Float) → is_nan x ≡ true → x ≡ square_root x
+of_nan x e = subst (λ (y : Float). y ≡ square_root y) (nan_only x e) (sym sqrt_nan)
 
 -- ---- the two zeros and the positive infinity are their own root
 abbrev Own : ℕ → Type 0

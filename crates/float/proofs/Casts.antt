@@ -1,11 +1,10 @@
 -- A float truncated to a whole number, and rounded up to one. Assumes nothing.
-use Rattle.std.proofs.lemmas.Float.{T_from_true}
 use Rattle.std.proofs.Common.{◌≡◌, ℕ, zero, suc, ◌+◌, ◌-◌, ◌*◌, ◌/◌, ◌^◌, ◌<◌, ◌≤◌, min, true, false, T, ℤ, pos, neg_ℤ, sym, refl, ◌∙◌, subst, lt_of_lt_of_le, div-lt_iff_lt-mul, add-mul, lt_of_mul-lt-mul_right, mul-lt-mul_of_pos_right, le-div_iff_mul-le, mul-one, mul_right_comm, le_of_mul-le-mul_right, arith, leb→le, pow_pos, ltb-false, ltb-true, lt-ltb}
-use lib.Ieee.{Float, nan, inf, fin, binary32, up, down, lt, ne, of_int, to_signed, to_unsigned}
-use lib.Ieee.Compare.{nan_differs, differs_from_itself}
+use lib.Ieee.{Float, nan, inf, fin, binary32, up, down, is_nan, lt, of_int, to_signed, to_unsigned}
 use lib.Ieee.Exact.{HasValue, round_exact}
 use lib.Ieee.Fits.{down_pos}
 use Rattle.float.specs.Cells.{natural, truncate, ceiling}
+use Rattle.float.proofs.Nans.{nan_only}
 use Rattle.float.proofs.Signs.{clash}
 
 -- 1 and 2 ^ 31: between them the standard library's cast is used
@@ -59,13 +58,13 @@ truncate_asks (fin false m e) h g = (
   subst T (sym (lt-ltb (m * up e * 1) (1 * 2 ^ 64 * down e) (omega (arith, ltb-true (m * up e * 1) (1 * 2 ^ 31 * down e) g)))) tt,
 )
 
-pub truncate-nan : (x : Float) → ne x x ≡ true → 0 ≡ truncate x
+pub truncate-nan : (x : Float) → is_nan x ≡ true → 0 ≡ truncate x
 unfolding truncate to_signed
-truncate-nan x h = rw (differs_from_itself x (T_from_true _ h))
+truncate-nan x h = rw (sym (nan_only x h))
 
-pub truncate_high : (x : Float) → lt x end_f ≡ false → ne x x ≡ false → 2 ^ 31 - 1 ≡ truncate x
-unfolding lt to_signed truncate
-truncate_high nan h g = clash (sym nan_differs ∙ g)
+pub truncate_high : (x : Float) → lt x end_f ≡ false → is_nan x ≡ false → 2 ^ 31 - 1 ≡ truncate x
+unfolding lt to_signed truncate is_nan
+truncate_high nan h g = clash g
 truncate_high (inf true) h g = clash h
 truncate_high (inf false) h g = refl
 truncate_high (fin true m e) h g = absurd (omega (arith, down_pos e, ltb-false 0 (m * up e * 1 + 1 * 2 ^ 31 * down e) h))

@@ -1,4 +1,6 @@
 // A float and the word of its bits, with one pattern for NaN.
+//
+// Kept: the library's `from_bits` and `to_bits` require that no NaN is given, and no caller owes that here.
 ghost use Rattle.std.specs.Prelude.{◌≡◌, from_bits, to_bits};
 ghost use Rattle.std.specs.Float.{binary32};
 
@@ -18,7 +20,7 @@ pub fn of_bits(w: u32) -> f32
 pub fn bits_of(x: f32) -> u32
     ensures { result ≡ to_bits binary32 x }
 {
-    if x != x {
+    if x.is_nan() {
         return 0x7fc0_0000;
     }
     f32::to_bits(x)

@@ -3,10 +3,12 @@ ghost use Rattle.std.specs.Prelude.{◌≡◌};
 ghost use Rattle.float.specs.Order.{greater, lesser, clamp};
 
 // The greater of two; where one is NaN, the other.
+// Kept: the library's max leaves open which of two equal numbers it gives, and so a zero's sign.
+#[tactic(auto, unfolding(crate::specs::Order::greater))]
 pub fn max(a: f32, b: f32) -> f32
     ensures { result ≡ greater a b }
 {
-    if a != a {
+    if a.is_nan() {
         b
     } else if a < b {
         b
@@ -16,10 +18,12 @@ pub fn max(a: f32, b: f32) -> f32
 }
 
 // The lesser of two; where one is NaN, the other.
+// Kept: the library's min leaves that open as well.
+#[tactic(auto, unfolding(crate::specs::Order::lesser))]
 pub fn min(a: f32, b: f32) -> f32
     ensures { result ≡ lesser a b }
 {
-    if a != a {
+    if a.is_nan() {
         b
     } else if b < a {
         b
@@ -29,6 +33,8 @@ pub fn min(a: f32, b: f32) -> f32
 }
 
 // lo where x is below it, hi where x is above it, else x: a NaN goes through, and so does -0.
+// Kept: the library's clamp requires that lo is not above hi, and nothing is asked of a caller here.
+#[tactic(auto, unfolding(crate::specs::Order::clamp))]
 pub fn clamp(x: f32, lo: f32, hi: f32) -> f32
     ensures { result ≡ clamp x lo hi }
 {

@@ -12,7 +12,7 @@ pub fn sqrt(x: f32) -> f32
     ensures value { result ≡ square_root x }
     ensures nearest { T (Positive·positive x) → NearestRoot x result }
 {
-    if x != x {
+    if x.is_nan() {
         return x;
     }
     let b = f32::to_bits(x);

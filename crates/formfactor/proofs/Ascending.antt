@@ -1,5 +1,5 @@
 -- Links strictly ascend in each row, and what `build` leaves passes the tests that a solve makes of its rows. Assumes nothing.
-use mathlib.Core.Bool.{Bool, true, false}
+use mathlib.Core.Bool.{true}
 use mathlib.Core.List.{List, [], ◌∷◌, ◌++◌, append-nil}
 use mathlib.Core.Logic.{◌⊎◌, inl, inr}
 use mathlib.Core.Path.{◌≡◌, refl, sym, ap, ◌∙◌}
@@ -11,6 +11,7 @@ use lib.Dec.{ltb, leb}
 use lib.ListN.{length, length-append, get_or-append}
 use lib.Ieee.{Float}
 use lib.Seq.{sets, slice, length-sets, get_or_at, get_or-take, get_or-append-add}
+use Rattle.std.specs.Prelude.{Option, Some, None}
 use Rattle.vector.specs.Flat.{rows}
 use Rattle.vector.specs.Fold.{fold}
 use Rattle.vector.proofs.Replaced.{length_filled, at_filled}
@@ -66,10 +67,10 @@ snoc xs c r = record { below = below; rising = λ j h. rising j (eq-or-lt_of_le 
     rising j (inl e) = omega (arith, last (j + 1) e, old j (omega (arith, e)), r.below j (omega (arith, e)))
     rising j (inr h) = omega (arith, old j (omega arith), old (j + 1) h, r.rising j h)
 
-one_link : (l : Links) (c : ℕ) (pair : Pair) (b : Bool) → pair.linked ≡ b → Rising l.cluster c → Rising (linked_to l c pair).cluster (suc c)
+one_link : (l : Links) (c : ℕ) (pair : Pair) (w : Option Float) → pair.weight ≡ w → Rising l.cluster c → Rising (linked_to l c pair).cluster (suc c)
 unfolding linked_to
-one_link l c pair true e r = rw e (snoc l.cluster c r)
-one_link l c pair false e r = rw (e, append-nil l.cluster) (wider l.cluster c r)
+one_link l c pair (Some w) e r = rw e (snoc l.cluster c r)
+one_link l c pair None e r = rw (e, append-nil l.cluster) (wider l.cluster c r)
 
 -- the raw links to the first m clusters ascend, and are below m
 pub links_rise : (s : Scene) (diag : Float) (a : Receiver) (cluster : ℕ → Cluster) (m : ℕ) → Rising (raw_links s diag a cluster m).cluster m

@@ -1,5 +1,4 @@
 -- Raw links, one cluster more at a time: how many they are, what their sum is, and how they are stored. Assumes nothing.
-use mathlib.Core.Bool.{Bool, true, false}
 use mathlib.Core.List.{List, [], ◌∷◌, append-nil}
 use mathlib.Core.Path.{◌≡◌, refl, sym, ◌∙◌}
 use Prim.Native.Nat.{ℕ, zero, suc, ◌+◌, ◌*◌, ◌≤◌}
@@ -8,6 +7,7 @@ use native.Mathlib.Omega.{arith}
 use lib.Ieee.{Float, binary32, of_bits}
 use lib.ListN.{length, take, length-append}
 use lib.Seq.{sets}
+use Rattle.std.specs.Prelude.{Option, Some, None}
 use Rattle.float.specs.Arithmetic.{◌*f◌, 0f, 1f}
 use Rattle.float.specs.Order.{lesser}
 use Rattle.vector.specs.Fold.{fold}
@@ -23,14 +23,19 @@ use Rattle.links.specs.Pairs.{pair_of}
 use Rattle.links.specs.Scaling.{row_sum, target_of, calibrated, calibrated_sum}
 use Rattle.links.proofs.Faced.{pair_evals}
 use Rattle.links.proofs.Scaled.{row_sum_more, length_calibrated}
-use Rattle.formfactor.specs.Linking.{Links, Row, no_links, if_linked, linked_to, raw_links, openness, row_of}
+use Rattle.formfactor.specs.Linking.{Links, Row, no_links, cluster_if, weight_if, linked_to, raw_links, openness, row_of}
 use Rattle.formfactor.specs.Needs.{pair_made, links_made, row_made}
 
+-- nothing is told yet
+none_made : {links evals : ℕ} {sum : Float} → links ≡ 0 → sum ≡ 0f → evals ≡ 0
+    → ◌≡◌ {A = RowMade} (record { links = links; sum = sum; evals = evals }) (record { links = 0; sum = 0f; evals = 0 })
+none_made p q r = rw (p, q, r)
+
 -- what a pair adds
-added_by : (l : Links) (c : ℕ) (pair : Pair) (b : Bool) → pair.linked ≡ b → links_made (linked_to l c pair) ≡ pair_made (links_made l) pair
+added_by : (l : Links) (c : ℕ) (pair : Pair) (w : Option Float) → pair.weight ≡ w → links_made (linked_to l c pair) ≡ pair_made (links_made l) pair
 unfolding links_made linked_to pair_made
-added_by l c pair true e = rw (e, length-append l.cluster (c ∷ []), row_sum_more l.weight pair.weight)
-added_by l c pair false e = rw (e, append-nil l.cluster, append-nil l.weight)
+added_by l c pair (Some w) e = rw (e, length-append l.cluster (c ∷ []), row_sum_more l.weight w)
+added_by l c pair None e = rw (e, append-nil l.cluster, append-nil l.weight)
 
 module _ (s : Scene) (diag : Float) (a : Receiver) (cluster : ℕ → Cluster) where
   abbrev raw : ℕ → Links
@@ -45,11 +50,11 @@ module _ (s : Scene) (diag : Float) (a : Receiver) (cluster : ℕ → Cluster) w
   raw_more c = rw (add-one c)
 
   -- each cluster gives one link at most, with its weight, and 96 evaluations
-  one_more : (l : Links) (c : ℕ) (pair : Pair) (b : Bool) → pair.linked ≡ b → length l.cluster ≤ c → length l.weight ≡ length l.cluster
+  one_more : (l : Links) (c : ℕ) (pair : Pair) (w : Option Float) → pair.weight ≡ w → length l.cluster ≤ c → length l.weight ≡ length l.cluster
       → (length (linked_to l c pair).cluster ≤ c + 1) × (length (linked_to l c pair).weight ≡ length (linked_to l c pair).cluster)
   unfolding linked_to
-  one_more l c pair true e h k = (rw (e, length-append l.cluster (c ∷ [])) (omega arith), rw (e, length-append l.cluster (c ∷ []), length-append l.weight (pair.weight ∷ []), k))
-  one_more l c pair false e h k = (rw (e, append-nil l.cluster) (omega arith), rw (e, append-nil l.cluster, append-nil l.weight) k)
+  one_more l c pair (Some w) e h k = (rw (e, length-append l.cluster (c ∷ [])) (omega arith), rw (e, length-append l.cluster (c ∷ []), length-append l.weight (w ∷ []), k))
+  one_more l c pair None e h k = (rw (e, append-nil l.cluster) (omega arith), rw (e, append-nil l.cluster, append-nil l.weight) k)
 
   pub raw_few : (c : ℕ) → (length (raw c).cluster ≤ c) × (length (raw c).weight ≡ length (raw c).cluster)
   raw_few zero = (rw raw_none (omega arith), rw raw_none)
@@ -70,15 +75,15 @@ module _ (s : Scene) (diag : Float) (a : Receiver) (cluster : ℕ → Cluster) w
   told_few c p = (rw p (raw_few c).0, rw p (raw_evals c))
 
   -- the links are told and stored as `raw_links` starts and goes on
-  pub told_none : (link₀ : List ℕ) (weight₀ : List Float)
-      → (◌≡◌ {A = RowMade} (record { links = 0; sum = 0f; evals = 0 }) (links_made (raw 0))) × (link₀ ≡ sets link₀ 0 (raw 0).cluster) × (weight₀ ≡ sets weight₀ 0 (raw 0).weight)
+  pub told_none : (link₀ : List ℕ) (weight₀ : List Float) {m : RowMade} → m.links ≡ 0 → m.sum ≡ 0f → m.evals ≡ 0
+      → (m ≡ links_made (raw 0)) × (link₀ ≡ sets link₀ 0 (raw 0).cluster) × (weight₀ ≡ sets weight₀ 0 (raw 0).weight)
   unfolding links_made raw_links row_sum fold
-  told_none link₀ weight₀ = (refl, refl, refl)
+  told_none link₀ weight₀ p q r = (none_made p q r, refl, refl)
 
   pub told_more : (c : ℕ) (link₀ : List ℕ) (weight₀ : List Float) {m n : RowMade} {link link' : List ℕ} {weight weight' : List Float} {pair : Pair}
       → m ≡ links_made (raw c) → link ≡ sets link₀ 0 (raw c).cluster → weight ≡ sets weight₀ 0 (raw c).weight
       → pair ≡ pair_of s diag a (cluster c) → n ≡ pair_made m pair
-      → link' ≡ sets link m.links (if_linked pair c) → weight' ≡ sets weight m.links (if_linked pair pair.weight)
+      → link' ≡ sets link m.links (cluster_if pair.weight c) → weight' ≡ sets weight m.links (weight_if pair.weight)
       → (n ≡ links_made (raw (c + 1))) × (link' ≡ sets link₀ 0 (raw (c + 1)).cluster) × (weight' ≡ sets weight₀ 0 (raw (c + 1)).weight)
   unfolding links_made linked_to
   told_more c link₀ weight₀ p k w e n l v =

@@ -1,7 +1,7 @@
 -- The laws of rows that were built: what a call that is not refused left, rows of a part of the surfels, and evaluations that add up and are bounded. Assumes nothing.
 use mathlib.Core.Bool.{Bool, true, false, ◌&&◌, true≢false}
 use mathlib.Core.List.{List}
-use mathlib.Core.Path.{◌≡◌, refl, sym, ap, subst, ◌∙◌}
+use mathlib.Core.Path.{◌≡◌, refl, sym, ap, ◌∙◌}
 use Prim.Native.Nat.{ℕ, zero, suc, ◌+◌, ◌*◌, ◌≤◌, ◌<◌}
 use native.Mathlib.Numerals.{add-one}
 use native.Mathlib.Omega.{arith}
@@ -10,22 +10,23 @@ use lib.Dec.{eqb}
 use lib.Ieee.{Float}
 use lib.ListN.{length, take, drop, length-append}
 use lib.Seq.{sets, slice}
+use Rattle.std.specs.Prelude.{Result, Ok, Err}
 use Rattle.vector.specs.Flat.{vec_at, rows, filled}
 use Rattle.vector.specs.Fold.{fold}
 use Rattle.vector.proofs.Replaced.{at_cut, at_drop, at_filled, rows_same}
 use Rattle.vector.proofs.Sums.{fold_same}
 use Rattle.vector.proofs.Stored.{take_sets, rows_split, rows_slice}
+use Rattle.accept.specs.declared.refusal.Refusal.{Refusal}
 use Rattle.accept.specs.Tables.{number_at}
 use Rattle.field.proofs.Chosen.{chosen}
 use Rattle.order.specs.Order.{sums}
 use Rattle.order.proofs.Filled.{sums_split}
-use Rattle.formfactor.specs.declared.BuildAnswer.{BuildAnswer}
-use Rattle.formfactor.specs.declared.BuildAnswer.TheVariants.{Refused, Full, Done}
+use Rattle.formfactor.specs.declared.BuildError.{BuildError}
 use Rattle.formfactor.specs.declared.Built.{Built}
 use Rattle.formfactor.specs.Lent.{Setting}
 use Rattle.formfactor.specs.Linking.{Row}
 use Rattle.formfactor.specs.Building.{row_at, clusters_of, weights_of, start_of, interior, mean_of, evals_of, passing, capacity, fitting}
-use Rattle.formfactor.specs.Checks.{refusal}
+use Rattle.formfactor.specs.Checks.{check}
 use Rattle.formfactor.specs.Answers.{built_answer, built, build_answer}
 use Rattle.formfactor.specs.Parts.{PartOf, cut_out, DoneCall, starts_left, clusters_left, weights_left, RowsOfPart, Piece}
 use Rattle.formfactor.proofs.Refusing.{started}
@@ -33,17 +34,14 @@ use Rattle.formfactor.proofs.Rowwise.{fit, capacity_most, as_many, evals_most}
 
 -- ---- what a call that is not refused left
 
--- no other answer is Done
-abbrev IsDone : BuildAnswer → Type 0
-IsDone (Refused number) = ⊥
-IsDone (Full row) = ⊥
-IsDone (Done b) = Unit
+-- an error is no answer
+err_ok : {e : BuildError} {b : Built} → ◌≡◌ {A = Result Built BuildError} (Err e) (Ok b) → ⊥
+err_ok p = cc
 
 -- what is told by an answer, or what is given where it tells nothing
-abbrev told_by : BuildAnswer → Built → Built
-told_by (Refused number) b = b
-told_by (Full row) b = b
-told_by (Done told) b = told
+abbrev told_by : Result Built BuildError → Built → Built
+told_by (Err e) b = b
+told_by (Ok told) b = told
 
 -- all of n tests that pass are n, and so the last of them passed
 passing-le : (test : ℕ → Bool) (n : ℕ) → passing test n ≤ n
@@ -80,19 +78,19 @@ fitted t room zero p = omega arith
 fitted t room (suc n) p = leb-true _ _ (passed_last (fit t room) n p)
 
 abbrev Outcome : Type 0
-Outcome = BuildAnswer × List ℕ × List ℕ × List Float
+Outcome = Result Built BuildError × List ℕ × List ℕ × List Float
 
 module _ (t : Setting) (c : DoneCall t) where
-  abbrev number : ℕ
-  number = refusal c.lo c.hi t (length c.starts) c.link c.scratch
+  abbrev checked : Result Unit Refusal
+  checked = check c.lo c.hi t (length c.starts) c.link c.scratch
 
   abbrev room : ℕ
   room = capacity (length c.cluster) (length c.weight)
 
-  told_built : (b : Built) → Done b ≡ Done c.told → c.told ≡ b
-  told_built b e = sym (ap (λ (a : BuildAnswer). told_by a b) e)
+  told_built : (b : Built) → ◌≡◌ {A = Result Built BuildError} (Ok b) (Ok c.told) → c.told ≡ b
+  told_built b e = sym (ap (λ (a : Result Built BuildError). told_by a b) e)
 
-  by_rows : (b : Bool) → eqb (fitting t room) t.n ≡ b → eqb number 0 ≡ true → Left t c
+  by_rows : (b : Bool) → eqb (fitting t room) t.n ≡ b → checked ≡ Ok tt → Left t c
   unfolding build_answer built built_answer fitting
   by_rows true e z =
       let all : fitting t room ≡ t.n = eqb-true _ _ e in
@@ -104,19 +102,19 @@ module _ (t : Setting) (c : DoneCall t) where
         starts_as = ap (λ (x : Outcome). x.1) w ∙ ap (λ (r : ℕ). filled (start_of t) (r + 1) c.starts) all;
         clusters_as = ap (λ (x : Outcome). x.2) w ∙ ap (λ (r : ℕ). sets c.cluster 0 (clusters_of t r)) all;
         weights_as = ap (λ (x : Outcome). x.3) w ∙ ap (λ (r : ℕ). sets c.weight 0 (weights_of t r)) all;
-        starts_hold = started c.lo c.hi t (length c.starts) c.link c.scratch (eqb-true _ _ z);
+        starts_hold = started c.lo c.hi t (length c.starts) c.link c.scratch z;
         clusters_hold_lem = omega (arith, inside, most.0);
         weights_hold = omega (arith, inside, most.1);
       }
-  by_rows false e z = absurd (subst IsDone (sym (rw (z, e) at c.done)) tt)
+  by_rows false e z = absurd (err_ok (rw (z, e) at c.done))
 
-  by_number : (b : Bool) → eqb number 0 ≡ b → Left t c
+  by_check : (r : Result Unit Refusal) → checked ≡ r → Left t c
   unfolding build_answer
-  by_number true z = by_rows _ refl z
-  by_number false z = absurd (subst IsDone (sym (rw z at c.done)) tt)
+  by_check (Ok u) z = by_rows _ refl z
+  by_check (Err r) z = absurd (err_ok (rw z at c.done))
 
   pub left : Left t c
-  left = by_number _ refl
+  left = by_check _ refl
 
 -- ---- rows of a part of the surfels
 

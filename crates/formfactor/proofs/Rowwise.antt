@@ -12,15 +12,17 @@ use lib.Dec.{eqb, leb}
 use lib.Ieee.{Float}
 use lib.ListN.{length, take, drop, set, length-append}
 use lib.Seq.{sets}
-use Rattle.float.specs.Arithmetic.{◌+f◌}
+use Rattle.std.specs.Prelude.{Result, Ok, Err}
+use Rattle.float.specs.Arithmetic.{◌+f◌, 0f}
 use Rattle.vector.specs.Flat.{rows, filled}
 use Rattle.vector.specs.Fold.{fold}
 use Rattle.vector.proofs.Replaced.{filled_none, filled_put}
 use Rattle.vector.proofs.Stored.{sets_front_append, drop_sets, take_sets, rows_more}
 use Rattle.accept.specs.Limits.{max_clusters, max_links}
 use Rattle.field.proofs.Chosen.{chosen}
-use Rattle.formfactor.specs.declared.BuildAnswer.{BuildAnswer}
-use Rattle.formfactor.specs.declared.BuildAnswer.TheVariants.{Full, Done}
+use Rattle.formfactor.specs.declared.BuildError.{BuildError}
+use Rattle.formfactor.specs.declared.BuildError.TheVariants.{Full}
+use Rattle.formfactor.specs.declared.Built.{Built}
 use Rattle.formfactor.specs.declared.Interior.{Interior}
 use Rattle.formfactor.specs.declared.RowMade.{RowMade}
 use Rattle.formfactor.specs.declared.RowsMade.{RowsMade}
@@ -28,7 +30,7 @@ use Rattle.formfactor.specs.Lent.{Setting, receiver_at, cluster_at}
 use Rattle.formfactor.specs.Linking.{Row}
 use Rattle.formfactor.specs.Building.{row_at, clusters_of, weights_of, start_of, counted, interior, evals_of, passing, capacity, fitting}
 use Rattle.formfactor.specs.Answers.{built_answer, built}
-use Rattle.formfactor.specs.Needs.{most_evals, none_made, row_made, rows_made, with_links, with_row, built_of}
+use Rattle.formfactor.specs.Needs.{most_evals, row_made, rows_made, with_links, with_row, built_of}
 use Rattle.formfactor.proofs.Linked.{row_few, row_evals}
 
 -- ---- tests that pass up to the first that fails
@@ -84,9 +86,10 @@ module _ (t : Setting) where
       ∙ rw (as_many i, (row_at_few i).1) (sym (length-append (rows (λ k. (row_at t k).cluster) i) (row_at t i).cluster))
 
   -- what is told of the rows
-  pub told_start : none_made ≡ rows_made t 0
+  pub told_start : {links rows evals : ℕ} {sum : Float} → links ≡ 0 → rows ≡ 0 → sum ≡ 0f → evals ≡ 0
+      → ◌≡◌ {A = RowsMade} (record { links = links; interior = record { rows = rows; sum = sum }; evals = evals }) (rows_made t 0)
   unfolding rows_made clusters_of rows interior evals_of fold
-  told_start = refl
+  told_start p q r s = rw (p, q, r, s)
 
   pub told_on : (i : ℕ) {m r : RowsMade} {row : RowMade} → m ≡ rows_made t i → row ≡ row_made (row_at t i) → r ≡ with_row m row → r ≡ rows_made t (i + 1)
   unfolding rows_made row_made with_row with_links interior counted evals_of fold
@@ -143,15 +146,21 @@ pub record SoFar (t : Setting) (room : ℕ) (starts₀ cluster₀ : List ℕ) (w
   pub inside : start_of t i ≤ room
   pub passed : passing (fit t room) i ≡ i
 
+-- so far they have no more links than there is room for
+pub links_inside : {t : Setting} {room i : ℕ} {starts₀ cluster₀ starts cluster : List ℕ} {weight₀ weight : List Float} {m : RowsMade}
+    → SoFar t room starts₀ cluster₀ weight₀ starts cluster weight m i → m.links ≤ room
+unfolding rows_made
+links_inside {t} {i = i} {m = m} s = let e : m.links ≡ start_of t i = rw s.told in omega (arith, s.inside, e)
+
 module _ (t : Setting) (room : ℕ) (starts₀ cluster₀ : List ℕ) (weight₀ : List Float) where
   abbrev Now : List ℕ → List ℕ → List Float → RowsMade → ℕ → Type 0
   Now = SoFar t room starts₀ cluster₀ weight₀
 
-  pub none_yet : {m : RowsMade} → m ≡ none_made → Now starts₀ cluster₀ weight₀ m 0
+  pub none_yet : {m : RowsMade} → m.links ≡ 0 → m.interior.rows ≡ 0 → m.interior.sum ≡ 0f → m.evals ≡ 0 → Now starts₀ cluster₀ weight₀ m 0
   unfolding clusters_of weights_of rows passing
-  none_yet p =
+  none_yet p q r s =
       record {
-        told = p ∙ told_start t;
+        told = told_start t p q r s;
         begun = filled_none (start_of t) starts₀;
         clusters = refl;
         weights = refl;
@@ -166,9 +175,6 @@ module _ (t : Setting) (room : ℕ) (starts₀ cluster₀ : List ℕ) (weight₀
   start_told : (i : ℕ) {m : RowsMade} → m ≡ rows_made t i → m.links ≡ start_of t i
   unfolding rows_made
   start_told i p = rw p
-
-  pub links_inside : (i : ℕ) {starts cluster : List ℕ} {weight : List Float} {m : RowsMade} → Now starts cluster weight m i → m.links ≤ room
-  links_inside i s = omega (arith, s.inside, start_told i s.told)
 
   -- a row that fits goes behind the others
   pub one_more_row : (i : ℕ) (link : List ℕ) (scratch : List Float) {starts cluster cluster' link' : List ℕ} {weight weight' scratch' : List Float} {m m' : RowsMade} {row : RowMade}
@@ -198,7 +204,7 @@ module _ (t : Setting) (room : ℕ) (starts₀ cluster₀ : List ℕ) (weight₀
   module _ (e : room ≡ capacity (length cluster₀) (length weight₀)) where
     pub stopped : (i : ℕ) {starts cluster : List ℕ} {weight : List Float} {m : RowsMade} {row : RowMade} → Now starts cluster weight m i → i < t.n → i < length starts₀
         → row ≡ row_made (row_at t i) → room < m.links + row.links
-        → ◌≡◌ {A = BuildAnswer × List ℕ × List ℕ × List Float} (Full i, set starts i m.links, cluster, weight) (built t starts₀ cluster₀ weight₀)
+        → ◌≡◌ {A = Result Built BuildError × List ℕ × List ℕ × List Float} (Err (Full i), set starts i m.links, cluster, weight) (built t starts₀ cluster₀ weight₀)
     unfolding built built_answer fitting
     stopped i s h l q f =
         let k = links_told i q in
@@ -208,6 +214,6 @@ module _ (t : Setting) (room : ℕ) (starts₀ cluster₀ : List ℕ) (weight₀
         rw (sym e, r, ne_eqb i t.n (λ z. omega (arith, z, h)), filled_put (start_of t) i starts₀ s.begun l st refl, s.clusters, s.weights)
 
     pub all_built : {starts cluster : List ℕ} {weight : List Float} {m : RowsMade} → Now starts cluster weight m t.n → t.n < length starts₀
-        → ◌≡◌ {A = BuildAnswer × List ℕ × List ℕ × List Float} (Done (built_of m), set starts t.n m.links, cluster, weight) (built t starts₀ cluster₀ weight₀)
+        → ◌≡◌ {A = Result Built BuildError × List ℕ × List ℕ × List Float} (Ok (built_of m), set starts t.n m.links, cluster, weight) (built t starts₀ cluster₀ weight₀)
     unfolding built built_answer fitting built_of rows_made
     all_built s l = rw (sym e, s.passed, eq-eqb t.n t.n refl, filled_put (start_of t) t.n starts₀ s.begun l (start_told t.n s.told) refl, s.told, s.clusters, s.weights)

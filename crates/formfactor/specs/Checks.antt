@@ -1,11 +1,13 @@
 -- Whether rows can be made: document 01, 'Refused calls', 2 to 6. The link slices have no need. Definitions only.
-use Rattle.std.specs.Prelude.{Bool, ◌&&◌, List, [], ◌∷◌, ℕ, leb, ltb, Float, length}
+use Rattle.std.specs.Prelude.{Bool, ◌&&◌, List, [], ◌∷◌, ℕ, leb, ltb, Float, length, Result}
 use Rattle.float.specs.Arithmetic.{0f}
 use Rattle.vector.specs.declared.Vec3.{Vec3}
 use Rattle.accept.specs.Every.{conj}
 use Rattle.accept.specs.Limits.{max_surfels, max_clusters, max_amount, max_cluster_area}
 use Rattle.accept.specs.Ranges.{bounds, coordinates, floats_within}
-use Rattle.accept.specs.Refusal.{first_failed}
+use Rattle.accept.specs.declared.refusal.Refusal.{Refusal}
+use Rattle.accept.specs.declared.refusal.Refusal.TheVariants as refusal
+use Rattle.accept.specs.Refusal.{checked}
 use Rattle.accept.specs.Tables.{at_most, column}
 use Rattle.tables.specs.Checks.{counts_within, tables_hold, shapes_within, parts_fit}
 use Rattle.formfactor.specs.Lent.{Emitters, Setting}
@@ -40,15 +42,15 @@ emitters_within e =
     ∷ floats_within e.radius e.nc 1 0f max_amount
     ∷ [])
 
--- the number that refuses the call with the bounds from lo to hi, 0 if none does
-unfoldable pub refusal : Vec3 → Vec3 → Setting → ℕ → ℕ → ℕ → ℕ
-refusal lo hi t starts link scratch =
+-- what refuses the call with the bounds from lo to hi, if anything does
+unfoldable pub check : Vec3 → Vec3 → Setting → ℕ → ℕ → ℕ → Result Unit Refusal
+check lo hi t starts link scratch =
     let s = t.scene in
     let e = t.emitters in
-    first_failed
-    ((2, conj (at_most t.n max_surfels ∷ at_most e.nc max_clusters ∷ counts_within s.prims s.planes s.objects ∷ []))
-    ∷ (3, bounds lo hi)
-    ∷ (4, conj (tables_hold s ∷ surfels_hold t.n t.p t.normals starts ∷ emitters_hold e link scratch ∷ []))
-    ∷ (5, conj (shapes_within s ∷ surfels_within t.n t.p t.normals ∷ emitters_within e ∷ []))
-    ∷ (6, parts_fit s)
+    checked
+    ((refusal.Count, conj (at_most t.n max_surfels ∷ at_most e.nc max_clusters ∷ counts_within s ∷ []))
+    ∷ (refusal.Range, bounds lo hi)
+    ∷ (refusal.Length, conj (tables_hold s ∷ surfels_hold t.n t.p t.normals starts ∷ emitters_hold e link scratch ∷ []))
+    ∷ (refusal.Float, conj (shapes_within s ∷ surfels_within t.n t.p t.normals ∷ emitters_within e ∷ []))
+    ∷ (refusal.Scene, parts_fit s)
     ∷ [])

@@ -1,6 +1,6 @@
 -- A row of links: document 01, 'The rows' (links in a row strictly ascend; if the row sum exceeds 1e-5 the row is scaled by min(target / sum, 8)), in the order of the Rust's float steps:
 -- the raw links, then the target, then the scaling. Definitions only.
-use Rattle.std.specs.Prelude.{cond, List, [], ◌∷◌, ◌++◌, ℕ, ◌+◌, Float}
+use Rattle.std.specs.Prelude.{List, [], ◌∷◌, ◌++◌, ℕ, ◌+◌, Float, Option, Some, None}
 use Rattle.std.specs.Float.{binary32}
 use Rattle.std.specs.Float.Ieee.{of_bits}
 use Rattle.float.specs.Arithmetic.{◌*f◌, 1f}
@@ -24,16 +24,21 @@ pub record Links : Type 0 where
 abbrev pub no_links : Links
 no_links = record { cluster = []; weight = []; evals = 0 }
 
--- what a pair adds to a list
-abbrev pub if_linked : {A : Type 0} → Pair → A → List A
-if_linked pair x = cond pair.linked (x ∷ []) []
+-- what a pair with cluster c adds to the clusters and to the weights: nothing where it is not linked
+abbrev pub cluster_if : Option Float → ℕ → List ℕ
+cluster_if None c = []
+cluster_if (Some w) c = c ∷ []
+
+abbrev pub weight_if : Option Float → List Float
+weight_if None = []
+weight_if (Some w) = w ∷ []
 
 -- the links with one cluster more, the pair of the surfel and cluster c
 unfoldable pub linked_to : Links → ℕ → Pair → Links
 linked_to l c pair =
     record {
-      cluster = l.cluster ++ if_linked pair c;
-      weight = l.weight ++ if_linked pair pair.weight;
+      cluster = l.cluster ++ cluster_if pair.weight c;
+      weight = l.weight ++ weight_if pair.weight;
       evals = l.evals + pair.evals;
     }
 

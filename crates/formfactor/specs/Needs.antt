@@ -1,7 +1,7 @@
 -- What the functions beneath the entries answer and ask of each other. No public contract rests on these. Definitions only.
-use Rattle.std.specs.Prelude.{cond, List, ◌≡◌, ℕ, ◌+◌, ◌*◌, ◌≤◌, ◌<◌, eqb, Float, length}
+use Rattle.std.specs.Prelude.{cond, List, ◌≡◌, ℕ, ◌+◌, ◌*◌, ◌≤◌, ◌<◌, eqb, Float, length, Option, Some, None}
 use Rattle.std.proofs.lemmas.List.Edits.{sets}
-use Rattle.float.specs.Arithmetic.{◌+f◌, 0f}
+use Rattle.float.specs.Arithmetic.{◌+f◌}
 use Rattle.vector.specs.Flat.{MutSlice}
 use Rattle.accept.specs.Limits.{max_surfels, max_clusters, max_links}
 use Rattle.links.specs.declared.Pair.{Pair}
@@ -22,12 +22,16 @@ pub record EmittersHeld (e : Emitters) : Type 0 where
   pub areas : e.nc ≤ length e.area
   pub radii : e.nc ≤ length e.radius
 
--- the columns of n surfels, and their starts
-pub record SurfelsHeld (n : ℕ) (p normals : List Float) (starts : List ℕ) : Type 0 where
+-- the columns of n surfels are there
+pub record SurfelsHeld (n : ℕ) (p normals : List Float) : Type 0 where
   pub few : n ≤ max_surfels
   pub places : 3 * n ≤ length p
   pub directions : 3 * n ≤ length normals
-  pub started : n < length starts
+
+-- both
+pub record Held (t : Setting) : Type 0 where
+  pub surfels : SurfelsHeld t.n t.p t.normals
+  pub emitters : EmittersHeld t.emitters
 
 -- scratch for a row
 pub record ScratchHeld (nc : ℕ) (link : List ℕ) (weight : List Float) : Type 0 where
@@ -43,13 +47,12 @@ pub record Open (m : RowMade) (c : ℕ) (link : List ℕ) (weight : List Float) 
   pub weights : c < length weight
 
 -- what is told of a row with one pair more
+abbrev pub weight_made : RowMade → Option Float → ℕ → RowMade
+weight_made m None evals = record { links = m.links; sum = m.sum; evals = evals }
+weight_made m (Some w) evals = record { links = m.links + 1; sum = m.sum +f w; evals = evals }
+
 unfoldable pub pair_made : RowMade → Pair → RowMade
-pair_made m pair =
-    record {
-      links = cond pair.linked (m.links + 1) m.links;
-      sum = cond pair.linked (m.sum +f pair.weight) m.sum;
-      evals = m.evals + pair.evals;
-    }
+pair_made m pair = weight_made m pair.weight (m.evals + pair.evals)
 
 -- what is told of raw links, of a row, and of the first k rows
 unfoldable pub links_made : Links → RowMade
@@ -71,10 +74,6 @@ pub record RowStanding (row : Row) (r : RowMade) (link : MutSlice ℕ) (weight :
   pub told : r ≡ row_made row
   pub clusters : link.exit.now ≡ sets link.entry.now 0 row.cluster
   pub weights : weight.exit.now ≡ sets weight.entry.now 0 row.weight
-
--- no rows
-abbrev pub none_made : RowsMade
-none_made = record { links = 0; interior = record { rows = 0; sum = 0f }; evals = 0 }
 
 -- after i rows, one row more: nothing overflows. A row takes at most 96 × 65,536 + 2,112 evaluations
 abbrev pub most_evals : ℕ

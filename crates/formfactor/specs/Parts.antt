@@ -1,10 +1,9 @@
 -- A part of the surfels built by itself, with the same clusters and scene: what a host may rely on that builds parts on several threads, or shows progress. The entry's answers are those
 -- of Answers, so this speaks of any calls. Definitions only; proofs/Parted has the theorems.
-use Rattle.std.specs.Prelude.{List, ◌≡◌, ℕ, ◌+◌, ◌*◌, ◌≤◌, ◌<◌, Float, take, drop}
+use Rattle.std.specs.Prelude.{List, ◌≡◌, ℕ, ◌+◌, ◌*◌, ◌≤◌, ◌<◌, Float, take, drop, Ok}
 use Rattle.std.proofs.Math.Seq.{slice}
 use Rattle.vector.specs.declared.Vec3.{Vec3}
 use Rattle.accept.specs.Tables.{number_at}
-use Rattle.formfactor.specs.declared.BuildAnswer.TheVariants.{Done}
 use Rattle.formfactor.specs.declared.Built.{Built}
 use Rattle.formfactor.specs.Lent.{Setting, receiver_at, setting_of}
 use Rattle.formfactor.specs.Answers.{build_answer}
@@ -31,7 +30,7 @@ pub record DoneCall (t : Setting) : Type 0 where
   pub link : ℕ
   pub scratch : ℕ
   pub told : Built
-  pub done : (build_answer lo hi t starts cluster weight link scratch).0 ≡ Done told
+  pub done : (build_answer lo hi t starts cluster weight link scratch).0 ≡ Ok told
 
 -- the starts and the links that it left
 abbrev pub starts_left : {t : Setting} → DoneCall t → List ℕ

@@ -1,112 +1,62 @@
 // The rows of all surfels, one after the other.
-ghost use Rattle.std.specs.Prelude.{◌≡◌, ◌+◌, ◌*◌, ◌<◌, ◌≤◌, length, take};
+ghost use Rattle.std.specs.Prelude.{◌≡◌, ◌+◌, ◌<◌, ◌≤◌, length, take};
 ghost use Rattle.std.proofs.lemmas.List.Edits.{sets};
 ghost use Rattle.vector.specs.Flat.{KeptFrom};
 ghost use Rattle.accept.specs.Limits.{max_surfels};
-ghost use Rattle.tables.specs.Tables.{scene_in};
-ghost use Rattle.formfactor.specs.Lent.{receiver_at, emitters_in, emitters_now, setting_in};
 ghost use Rattle.formfactor.specs.Building.{capacity, mean_of};
 ghost use Rattle.formfactor.specs.Answers.{built};
-ghost use Rattle.formfactor.specs.Needs.{EmittersHeld, SurfelsHeld, ScratchHeld, Small, none_made, with_links, with_row, built_of};
+ghost use Rattle.formfactor.specs.Needs.{ScratchHeld, Small, with_links, with_row, built_of};
 
-use crate::linking::{make_row, vec_at};
-use crate::{BuildAnswer, Built, Interior, RowMade, RowsMade};
-use accept::lesser;
+use crate::setting::Setting;
+use crate::{BuildError, Built, Interior, RowMade, RowsMade};
 use accept::limits::MAX_LINKS;
-use links::Receiver;
 
-// Builds the rows of n surfels, in a scene whose bounds have this diagonal, until one does not fit.
-pub fn build_rows(
-    prims: usize,
-    planes: usize,
-    objects: usize,
-    kinds: &[u32],
-    lengths: &[f32],
-    plane_parts: &[u32],
-    object_parts: &[u32],
-    diag: f32,
-    n: usize,
-    p: &[f32],
-    normals: &[f32],
-    nc: usize,
-    cluster_p: &[f32],
-    cluster_n: &[f32],
-    cluster_area: &[f32],
-    cluster_radius: &[f32],
-    starts: &mut [u32],
-    link_cluster: &mut [u32],
-    link_weight: &mut [f32],
-    link: &mut [u32],
-    weight: &mut [f32],
-) -> BuildAnswer
-    requires surfels_held { SurfelsHeld n p.now normals.now starts.old }
-    requires emitters_held { EmittersHeld (emitters_now nc cluster_p cluster_n cluster_area cluster_radius) }
-    requires scratch_held { ScratchHeld nc link.old weight.old }
-    ensures link_weight_after { (result, starts.new, link_cluster.new, link_weight.new)
-        ≡ built (setting_in (scene_in prims planes objects kinds lengths plane_parts object_parts) diag n p normals
-        (emitters_in nc cluster_p cluster_n cluster_area cluster_radius)) starts.old link_cluster.old
-        link_weight.old }
-    ensures kept_from { KeptFrom nc link }
-    ensures kept_from_2 { KeptFrom nc weight }
-{
-    let room = capacity(link_cluster.len(), link_weight.len());
-    let mut made = none_made();
-    let mut i = 0;
-    while i < n {
-        starts[i] = made.links as u32;
-        let row = make_row(
-            prims,
-            planes,
-            objects,
-            kinds,
-            lengths,
-            plane_parts,
-            object_parts,
-            diag,
-            receiver_at(p, normals, i),
-            nc,
-            cluster_p,
-            cluster_n,
-            cluster_area,
-            cluster_radius,
-            link,
-            weight,
-        );
-        if room - made.links < row.links {
-            return BuildAnswer::Full(i);
+impl Setting<'_> {
+    // Builds the rows of the surfels until one does not fit.
+    pub fn build_rows(
+        &self,
+        starts: &mut [u32],
+        link_cluster: &mut [u32],
+        link_weight: &mut [f32],
+        link: &mut [u32],
+        weight: &mut [f32],
+    ) -> Result<Built, BuildError>
+        requires started { self.now.n < length starts.old }
+        requires scratch_held { ScratchHeld self.now.emitters.nc link.old weight.old }
+        ensures link_weight_after { (result, starts.new, link_cluster.new, link_weight.new)
+            ≡ built self.now starts.old link_cluster.old link_weight.old }
+        ensures kept_from { KeptFrom self.now.emitters.nc link }
+        ensures kept_from_2 { KeptFrom self.now.emitters.nc weight }
+    {
+        let room = capacity(link_cluster.len(), link_weight.len());
+        let surfels = self.surfels;
+        let mut made = RowsMade::default();
+        for i in 0..surfels.n {
+            starts[i] = made.links as u32;
+            let row = self.make_row(surfels.receiver_at(i), link, weight);
+            if room - made.links < row.links {
+                return Err(BuildError::Full(i));
+            }
+            put_links(
+                link,
+                weight,
+                row.links,
+                link_cluster,
+                link_weight,
+                made.links,
+            );
+            made = made.with(row, i);
         }
-        put_links(
-            link,
-            weight,
-            row.links,
-            link_cluster,
-            link_weight,
-            made.links,
-        );
-        made = made.with(row, i);
-        i += 1;
+        starts[surfels.n] = made.links as u32;
+        Ok(made.built())
     }
-    starts[n] = made.links as u32;
-    BuildAnswer::Done(made.built())
 }
 
 // How many links two slices of these lengths take.
 fn capacity(clusters: usize, weights: usize) -> usize
     ensures { result ≡ capacity clusters weights }
 {
-    lesser(lesser(clusters, weights), MAX_LINKS)
-}
-
-// Surfel i.
-fn receiver_at(p: &[f32], normals: &[f32], i: usize) -> Receiver
-    requires i_in_bounds { 3 * i + 2 < length p.now }
-    requires i_in_bounds_2 { 3 * i + 2 < length normals.now }
-    ensures { result ≡ receiver_at p.now normals.now i }
-{
-    Receiver {
-        p: vec_at(p, i),
-        n: vec_at(normals, i),
-    }
+    clusters.min(weights).min(MAX_LINKS)
 }
 
 // Copies the first k links of a row behind those of the rows before it.
@@ -125,27 +75,13 @@ fn put_links(
     ensures link_cluster_after { link_cluster.new ≡ sets link_cluster.old at (take k link.now) }
     ensures link_weight_after { link_weight.new ≡ sets link_weight.old at (take k weight.now) }
 {
-    let mut j = 0;
-    while j < k {
-        link_cluster[at + j] = link[j];
-        link_weight[at + j] = weight[j];
-        j += 1;
-    }
-}
-
-// That no row was built.
-fn none_made() -> RowsMade
-    ensures { result ≡ none_made }
-{
-    RowsMade {
-        links: 0,
-        interior: Interior { rows: 0, sum: 0.0 },
-        evals: 0,
-    }
+    link_cluster[at..at + k].copy_from_slice(&link[..k]);
+    link_weight[at..at + k].copy_from_slice(&weight[..k]);
 }
 
 impl RowsMade {
     // The rows with one more.
+    #[tactic(auto, unfolding(crate::specs::Needs::with_row))]
     fn with(self, row: RowMade, i: usize) -> RowsMade
         requires { Small self row i }
         ensures { result ≡ with_row self row }
@@ -158,6 +94,7 @@ impl RowsMade {
     }
 
     // What is answered of the rows.
+    #[tactic(auto, unfolding(crate::specs::Needs::built_of))]
     fn built(self) -> Built
         requires { self.interior.rows ≤ max_surfels }
         ensures { result ≡ built_of self }
@@ -172,6 +109,7 @@ impl RowsMade {
 
 impl Interior {
     // The rows with one more, which counts if it has links.
+    #[tactic(auto, unfolding(crate::specs::Needs::with_links))]
     fn with(self, row: RowMade) -> Interior
         requires { self.rows < max_surfels }
         ensures { result ≡ with_links self row }
@@ -187,6 +125,7 @@ impl Interior {
     }
 
     // The mean of the row sums, 0 if there are no rows.
+    #[tactic(auto, unfolding(crate::specs::Building::mean_of))]
     fn mean(self) -> f32
         requires { self.rows ≤ max_surfels }
         ensures { result ≡ mean_of self }

@@ -1,131 +1,80 @@
-// Whether rows can be made, and which number refuses the call.
+// Whether rows can be made, and what refuses the call.
 ghost use Rattle.std.specs.Prelude.{◌≡◌};
-ghost use Rattle.tables.specs.Tables.{scene_in};
-ghost use Rattle.formfactor.specs.Lent.{diagonal, emitters_in, setting_in};
-ghost use Rattle.formfactor.specs.Checks.{surfels_hold, emitters_hold, surfels_within, emitters_within, refusal};
+ghost use Rattle.formfactor.specs.Lent.{diagonal, setting_with};
+ghost use Rattle.formfactor.specs.Checks.{surfels_hold, emitters_hold, surfels_within, emitters_within, check};
 
+use crate::{Emitters, Surfels};
 use accept::limits::{MAX_AMOUNT, MAX_CLUSTER_AREA, MAX_CLUSTERS, MAX_SURFELS};
-use accept::{at_most, bounds, coordinates, floats_within, holds, unless};
-use tables::{counts_within, parts_fit, shapes_within, tables_hold};
+use accept::{Refusal, at_most, bounds, coordinates, floats_within, holds, require};
+use tables::Scene;
 use vector::Vec3;
 
-// The number that refuses to make rows of these surfels and clusters in slices of these lengths, 0 if
-// none does.
-pub fn refusal(
-    prims: usize,
-    planes: usize,
-    objects: usize,
-    kinds: &[u32],
-    lengths: &[f32],
-    plane_parts: &[u32],
-    object_parts: &[u32],
+// What refuses to make rows of these surfels and clusters in slices of these lengths.
+#[tactic(auto, unfolding(crate::specs::Checks::check, accept::specs::Refusal::checked))]
+pub fn check(
+    scene: &Scene,
     lo: Vec3,
     hi: Vec3,
-    n: usize,
-    p: &[f32],
-    normals: &[f32],
-    nc: usize,
-    cluster_p: &[f32],
-    cluster_n: &[f32],
-    cluster_area: &[f32],
-    cluster_radius: &[f32],
+    surfels: &Surfels,
+    emitters: &Emitters,
     starts: usize,
     link: usize,
     weight: usize,
-) -> u32
-    ensures { result ≡ refusal lo hi (setting_in (scene_in prims planes objects kinds lengths plane_parts object_parts) (diagonal lo hi) n p normals
-        (emitters_in nc cluster_p cluster_n cluster_area cluster_radius)) starts link weight }
+) -> Result<(), Refusal>
+    ensures { result ≡ check lo hi (setting_with scene.now (diagonal lo hi) surfels.now emitters.now) starts link weight }
 {
-    let few = at_most(n, MAX_SURFELS)
-        & at_most(nc, MAX_CLUSTERS)
-        & counts_within(prims, planes, objects);
-    let lent = tables_hold(
-        prims,
-        planes,
-        objects,
-        kinds,
-        lengths,
-        plane_parts,
-        object_parts,
-    ) & surfels_hold(n, p, normals, starts)
-        & emitters_hold(
-            nc,
-            cluster_p,
-            cluster_n,
-            cluster_area,
-            cluster_radius,
-            link,
-            weight,
-        );
-    let ranged = shapes_within(
-        prims,
-        planes,
-        objects,
-        kinds,
-        lengths,
-        plane_parts,
-        object_parts,
-    ) & surfels_within(n, p, normals)
-        & emitters_within(nc, cluster_p, cluster_n, cluster_area, cluster_radius);
-    let parts = parts_fit(
-        prims,
-        planes,
-        objects,
-        kinds,
-        lengths,
-        plane_parts,
-        object_parts,
-    );
-    let later = unless(ranged, 5, unless(parts, 6, 0));
-    unless(few, 2, unless(bounds(lo, hi), 3, unless(lent, 4, later)))
+    let few = at_most(surfels.n, MAX_SURFELS)
+        & at_most(emitters.nc, MAX_CLUSTERS)
+        & scene.counts_within();
+    require(few, Refusal::Count)?;
+    require(bounds(lo, hi), Refusal::Range)?;
+    let lent = scene.tables_hold() & surfels.hold(starts) & emitters.hold(link, weight);
+    require(lent, Refusal::Length)?;
+    let ranged = scene.shapes_within() & surfels.within() & emitters.within();
+    require(ranged, Refusal::Float)?;
+    require(scene.parts_fit(), Refusal::Scene)
 }
 
-// Whether the columns of the surfels and their starts are long enough.
-fn surfels_hold(n: usize, p: &[f32], normals: &[f32], starts: usize) -> bool
-    ensures { result ≡ surfels_hold n p.now normals.now starts }
-{
-    holds(p.len(), n, 3) & holds(normals.len(), n, 3) & (n < starts)
+impl Surfels<'_> {
+    // Whether the columns and so many starts are long enough.
+    #[tactic(auto, unfolding(crate::specs::Checks::surfels_hold))]
+    fn hold(&self, starts: usize) -> bool
+        ensures { result ≡ surfels_hold self.now.n self.now.p self.now.normals starts }
+    {
+        holds(self.p.len(), self.n, 3) & holds(self.normals.len(), self.n, 3) & (self.n < starts)
+    }
+
+    // Whether the places and normals are in range.
+    #[tactic(auto, unfolding(crate::specs::Checks::surfels_within))]
+    fn within(&self) -> bool
+        ensures { result ≡ surfels_within self.now.n self.now.p self.now.normals }
+    {
+        coordinates(self.p, self.n) & coordinates(self.normals, self.n)
+    }
 }
 
-// Whether the columns of the clusters and the scratch are long enough.
-fn emitters_hold(
-    nc: usize,
-    cluster_p: &[f32],
-    cluster_n: &[f32],
-    cluster_area: &[f32],
-    cluster_radius: &[f32],
-    link: usize,
-    weight: usize,
-) -> bool
-    ensures { result ≡ emitters_hold (emitters_in nc cluster_p cluster_n cluster_area cluster_radius) link weight }
-{
-    holds(cluster_p.len(), nc, 3)
-        & holds(cluster_n.len(), nc, 3)
-        & (nc <= cluster_area.len())
-        & (nc <= cluster_radius.len())
-        & (nc <= link)
-        & (nc <= weight)
-}
+impl Emitters<'_> {
+    // Whether the columns are long enough, and scratch of these lengths.
+    #[tactic(auto, unfolding(crate::specs::Checks::emitters_hold))]
+    fn hold(&self, link: usize, weight: usize) -> bool
+        ensures { result ≡ emitters_hold self.now link weight }
+    {
+        holds(self.p.len(), self.nc, 3)
+            & holds(self.n.len(), self.nc, 3)
+            & (self.nc <= self.area.len())
+            & (self.nc <= self.radius.len())
+            & (self.nc <= link)
+            & (self.nc <= weight)
+    }
 
-// Whether the places and normals of the surfels are in range.
-fn surfels_within(n: usize, p: &[f32], normals: &[f32]) -> bool
-    ensures { result ≡ surfels_within n p.now normals.now }
-{
-    coordinates(p, n) & coordinates(normals, n)
-}
-
-// Whether the places, normals, areas and radii of the clusters are in range.
-fn emitters_within(
-    nc: usize,
-    cluster_p: &[f32],
-    cluster_n: &[f32],
-    cluster_area: &[f32],
-    cluster_radius: &[f32],
-) -> bool
-    ensures { result ≡ emitters_within (emitters_in nc cluster_p cluster_n cluster_area cluster_radius) }
-{
-    coordinates(cluster_p, nc)
-        & coordinates(cluster_n, nc)
-        & floats_within(cluster_area, nc, 1, 0.0, MAX_CLUSTER_AREA)
-        & floats_within(cluster_radius, nc, 1, 0.0, MAX_AMOUNT)
+    // Whether the places, normals, areas and radii are in range.
+    #[tactic(auto, unfolding(crate::specs::Checks::emitters_within))]
+    fn within(&self) -> bool
+        ensures { result ≡ emitters_within self.now }
+    {
+        coordinates(self.p, self.nc)
+            & coordinates(self.n, self.nc)
+            & floats_within(self.area, self.nc, 1, 0.0, MAX_CLUSTER_AREA)
+            & floats_within(self.radius, self.nc, 1, 0.0, MAX_AMOUNT)
+    }
 }

@@ -1,103 +1,56 @@
-// The public entry: it refuses the call by document 01's number, or builds the rows.
+// The public entry: it refuses the call by document 01's tests, or builds the rows.
 ghost use Rattle.std.specs.Prelude.{◌≡◌, length};
 ghost use Rattle.vector.specs.Flat.{KeptFrom};
-ghost use Rattle.tables.specs.Tables.{scene_in};
-ghost use Rattle.formfactor.specs.Lent.{diagonal, emitters_in, setting_in};
+ghost use Rattle.formfactor.specs.Lent.{diagonal, setting_with};
 ghost use Rattle.formfactor.specs.Answers.{build_answer, scratch_open};
 
-use crate::BuildAnswer;
-use crate::building::build_rows;
-use crate::checks::refusal;
+use crate::checks::check;
+use crate::setting::Setting;
+use crate::{BuildError, Built, Emitters, Surfels};
+use tables::Scene;
 use vector::Vec3;
 
-// Builds the rows of n surfels over nc clusters: row i has its links from starts[i] up to
-// starts[i + 1]. A row whose links do not fit the shorter of the two link slices, of which at most
-// 16,777,216 places are used, is answered with its number, after the rows before it. Scratch holds one
-// row at a time.
+// Builds the rows of surfels over clusters, in a scene with the bounds from lo to hi: row i has its
+// links from starts[i] up to starts[i + 1]. A row whose links do not fit the shorter of the two link
+// slices, of which at most 16,777,216 places are used, is answered with its number, after the rows
+// before it. Scratch holds one row at a time.
+// Kept: the slices that are written are no struct, since of a struct of them each contract would say
+// besides that it still holds the same ones.
 pub fn build(
-    prims: usize,
-    planes: usize,
-    objects: usize,
-    kinds: &[u32],
-    lengths: &[f32],
-    plane_parts: &[u32],
-    object_parts: &[u32],
+    scene: &Scene,
     lo: Vec3,
     hi: Vec3,
-    n: usize,
-    p: &[f32],
-    normals: &[f32],
-    nc: usize,
-    cluster_p: &[f32],
-    cluster_n: &[f32],
-    cluster_area: &[f32],
-    cluster_radius: &[f32],
+    surfels: &Surfels,
+    emitters: &Emitters,
     starts: &mut [u32],
     link_cluster: &mut [u32],
     link_weight: &mut [f32],
     link: &mut [u32],
     weight: &mut [f32],
-) -> BuildAnswer
+) -> Result<Built, BuildError>
     ensures link_weight_after { (result, starts.new, link_cluster.new, link_weight.new)
-        ≡ build_answer lo hi (setting_in (scene_in prims planes objects kinds lengths plane_parts object_parts) (diagonal lo hi) n p normals
-        (emitters_in nc cluster_p cluster_n cluster_area cluster_radius)) starts.old link_cluster.old
-        link_weight.old
+        ≡ build_answer lo hi (setting_with scene.now (diagonal lo hi) surfels.now emitters.now) starts.old link_cluster.old link_weight.old
         (length link.old) (length weight.old) }
-    ensures kept_from { KeptFrom (scratch_open lo hi (setting_in (scene_in prims planes objects kinds lengths plane_parts object_parts)
-        (diagonal lo hi) n p normals
-        (emitters_in nc cluster_p cluster_n cluster_area cluster_radius)) (length starts.old)
+    ensures kept_from { KeptFrom (scratch_open lo hi (setting_with scene.now (diagonal lo hi) surfels.now emitters.now) (length starts.old)
         (length link.old) (length weight.old)) link }
-    ensures kept_from_2 { KeptFrom (scratch_open lo hi (setting_in (scene_in prims planes objects kinds lengths plane_parts object_parts)
-        (diagonal lo hi) n p normals
-        (emitters_in nc cluster_p cluster_n cluster_area cluster_radius)) (length starts.old)
+    ensures kept_from_2 { KeptFrom (scratch_open lo hi (setting_with scene.now (diagonal lo hi) surfels.now emitters.now) (length starts.old)
         (length link.old) (length weight.old)) weight }
 {
-    let number = refusal(
-        prims,
-        planes,
-        objects,
-        kinds,
-        lengths,
-        plane_parts,
-        object_parts,
+    check(
+        scene,
         lo,
         hi,
-        n,
-        p,
-        normals,
-        nc,
-        cluster_p,
-        cluster_n,
-        cluster_area,
-        cluster_radius,
+        surfels,
+        emitters,
         starts.len(),
         link.len(),
         weight.len(),
-    );
-    if number != 0 {
-        return BuildAnswer::Refused(number);
-    }
-    build_rows(
-        prims,
-        planes,
-        objects,
-        kinds,
-        lengths,
-        plane_parts,
-        object_parts,
-        hi.minus(lo).length(),
-        n,
-        p,
-        normals,
-        nc,
-        cluster_p,
-        cluster_n,
-        cluster_area,
-        cluster_radius,
-        starts,
-        link_cluster,
-        link_weight,
-        link,
-        weight,
-    )
+    )?;
+    let setting = Setting {
+        scene,
+        diag: hi.minus(lo).length(),
+        surfels,
+        emitters,
+    };
+    setting.build_rows(starts, link_cluster, link_weight, link, weight)
 }

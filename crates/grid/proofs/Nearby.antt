@@ -1,35 +1,45 @@
 -- The cells near a point as rows of cells that follow one another: they lie in the grid, and what is visited are their numbers. Assumes nothing.
 use mathlib.Core.Bool.{Bool, true, and-eq-true_iff}
+use Rattle.std.specs.Prelude.{Ok}
+use Rattle.std.specs.List.{All, concat}
+use mathlib.Core.List.{List}
 use mathlib.Core.Path.{◌≡◌, sym, ap, ◌∙◌}
-use Prim.Native.Nat.{ℕ, ◌+◌, ◌≤◌, ◌<◌}
+use Prim.Native.Nat.{ℕ, zero, suc, ◌+◌, ◌≤◌, ◌<◌}
 use native.Mathlib.Nat.{add_assoc}
 use native.Mathlib.Omega.{arith}
-use lib.ListN.{length}
-use lib.Seq.{slice}
+use lib.ListN.{length, take, length-take}
+use lib.Seq.{slice, get_or-take}
+use Rattle.std.proofs.lemmas.List.{get_or_default}
+use Rattle.std.proofs.lemmas.List.Elements.{All-nil, All-append, All-drop}
 use Rattle.float.specs.Arithmetic.{◌/f◌, 1f}
 use Rattle.vector.specs.declared.Vec3.{Vec3}
 use Rattle.vector.specs.Flat.{rows}
 use Rattle.vector.proofs.Replaced.{rows_same}
-use Rattle.accept.specs.Limits.{max_surfels}
 use Rattle.accept.specs.Tables.{number_at, numbers_below, starts_monotone}
 use Rattle.accept.proofs.Bounded.{numbers_below_at}
-use Rattle.accept.proofs.Refused.{Passed, none_failed}
+use Rattle.accept.proofs.Refused.{AllPassed, none_refused}
 use Rattle.accept.proofs.Starts.{Monotone, not_falling, starts_monotone_lem}
 use Rattle.grid.specs.declared.Cell.{Cell}
 use Rattle.grid.specs.declared.Dims.{Dims}
 use Rattle.grid.specs.Lent.{Grid, cells_of}
 use Rattle.grid.specs.Visiting.{first_near, count_near, listed, visited}
-use Rattle.grid.specs.Rows.{block_near, block_listed, RowsHeld, Small}
+use Rattle.grid.specs.Rows.{block_near, row_from, row_to, row_listed, rows_near, RowsHeld, RowsLeft}
 use Rattle.grid.specs.Cells.{dims_of, cell_of}
-use Rattle.grid.specs.Checks.{list_fits, tests, refusal}
-use Rattle.grid.proofs.Numbered.{dims_bounded}
-use Rattle.grid.proofs.Around.{number, number_along, near_end, inside, first_row, row_end}
+use Rattle.grid.specs.Checks.{list_fits, tests, check}
+use Rattle.grid.proofs.Around.{number, number_along, inside, first_row, row_end}
 use Rattle.grid.proofs.Slices.{rows_join}
+use Rattle.grid.proofs.Walked.{rows_joined}
+
+-- what holds in each row holds in all of them
+all_rows : {A : Type 0} (P : A → Type 0) (f : ℕ → List A) (n : ℕ) → ((i : ℕ) → i < n → All P (f i)) → All P (rows f n)
+unfolding rows
+all_rows P f zero h = All-nil P
+all_rows P f (suc n) h = All-append P (rows f n) (f n) (all_rows P f n (λ i k. h i (omega arith))) (h n (omega arith))
 
 -- a call that is not refused passed the tests
-pub accepted : (g : Grid) (few ranged lent floats : Bool) → refusal g few ranged lent floats ≡ 0 → Passed (tests g few ranged lent floats)
-unfolding refusal
-accepted g few ranged lent floats h = none_failed (tests g few ranged lent floats) tt h
+pub accepted : (g : Grid) (few ranged lent floats : Bool) → check g few ranged lent floats ≡ Ok tt → AllPassed (tests g few ranged lent floats)
+unfolding check
+accepted g few ranged lent floats h = none_refused (tests g few ranged lent floats) h
 
 module _ (g : Grid) (p : Vec3) (reach : ℕ) (h : list_fits g ≡ true) where
   abbrev d : Dims
@@ -81,31 +91,46 @@ module _ (g : Grid) (p : Vec3) (reach : ℕ) (h : list_fits g ≡ true) where
       (omega (arith, starts_fit.1.inside (first j k + wide) e, items_fit.0))
 
   -- what is visited are the numbers of the rows
-  pub visited_rows : visited g p reach ≡ block_listed g.starts g.items (block_near g.lo g.hi g.side p reach)
+  pub visited_rows : visited g p reach ≡ concat (rows_near g p reach)
   unfolding visited block_near
   visited_rows =
       rows_same _ _ (count_near c.z reach d.z)
       (λ k b. rows_same _ _ (count_near c.y reach d.y)
       (λ j a. row_joined j k a b ∙ ap (λ (t : ℕ). slice (number_at g.starts t) (number_at g.starts (t + wide)) g.items) (sym (first_row g.lo g.hi g.side p reach j k))))
+      ∙ sym (rows_joined g.starts g.items (block_near g.lo g.hi g.side p reach))
 
-  -- which lie in the tables
-  pub rows_held : RowsHeld g.starts g.items g.n (block_near g.lo g.hi g.side p reach)
+  -- whose rows lie in the tables, and their numbers among the first n items
+  ends : (j k : ℕ) → j < count_near c.y reach d.y → k < count_near c.z reach d.z → number_at g.starts (first j k + wide) ≤ g.n
+  ends j k a b = starts_fit.1.inside (first j k + wide) (row_in j k a b)
+
+  rows_held : RowsHeld g.starts g.items (block_near g.lo g.hi g.side p reach)
   unfolding block_near
   rows_held =
       record {
         started = λ j k a b. rw (first_row g.lo g.hi g.side p reach j k) (omega (arith, row_in j k a b, starts_fit.0));
         rises = λ j k a b. rw (first_row g.lo g.hi g.side p reach j k) (run (first j k) wide (row_in j k a b));
-        ends = λ j k a b. rw (first_row g.lo g.hi g.side p reach j k) (starts_fit.1.inside (first j k + wide) (row_in j k a b));
-        held = items_fit.0;
+        ends = λ j k a b. rw (first_row g.lo g.hi g.side p reach j k) (omega (arith, ends j k a b, items_fit.0));
       }
 
-  -- and there are at most 512 rows and layers
-  pub small : g.n ≤ max_surfels → Small g.n (block_near g.lo g.hi g.side p reach)
+  -- so that one can go over them
+  pub rows_begin : RowsLeft g.starts g.items (block_near g.lo g.hi g.side p reach) 0
   unfolding block_near
-  small e =
-      let b = dims_bounded g.lo g.hi g.side in
-      record {
-        few = e;
-        rows_few = omega (arith, near_end c.y reach d.y (inside g.lo g.hi g.side p reach).y_in, b.y_to);
-        layers_few = omega (arith, near_end c.z reach d.z (inside g.lo g.hi g.side p reach).z_in, b.z_to);
-      }
+  rows_begin = record { held = rows_held; next = omega (arith, (inside g.lo g.hi g.side p reach).y_in) }
+
+  front_below : (m : ℕ) → m ≤ g.n → All (λ k. k < g.n) (take m g.items)
+  front_below m h k d l =
+      let w : k < m = omega (arith, length-take m g.items, l) in
+      rw (get_or-take m g.items k d w, get_or_default g.items k d 0 (omega (arith, items_fit.0))) (items_fit.1 k (omega arith))
+
+  -- what is visited are numbers of points
+  pub visited_below : All (λ k. k < g.n) (visited g p reach)
+  unfolding block_near
+  visited_below =
+      let b = block_near g.lo g.hi g.side p reach in
+      let P : ℕ → Type 0 = λ k. k < g.n in
+      rw visited_rows
+      (rw (rows_joined g.starts g.items b)
+      (all_rows P (λ k. rows (λ j. row_listed g.starts g.items b k j) b.rows) b.layers
+      (λ k h. all_rows P (λ j. row_listed g.starts g.items b k j) b.rows
+      (λ j a. All-drop P (row_from g.starts b j k) (take (row_to g.starts b j k) g.items)
+      (front_below (row_to g.starts b j k) (rw (first_row g.lo g.hi g.side p reach j k) (ends j k a h)))))))

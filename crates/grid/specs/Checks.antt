@@ -1,11 +1,13 @@
 -- Whether a grid is accepted: document 01, 'Refused calls', 2, 3, 4, 5 and 7. Definitions only.
-use Rattle.std.specs.Prelude.{Bool, ◌&&◌, List, [], ◌∷◌, ℕ, leb, ltb, Float, length}
+use Rattle.std.specs.Prelude.{Bool, ◌&&◌, List, [], ◌∷◌, ℕ, leb, ltb, Result, Float, length}
 use Rattle.vector.specs.declared.Vec3.{Vec3}
 use Rattle.accept.specs.Every.{conj}
 use Rattle.accept.specs.Limits.{max_surfels, min_cell, max_cell}
 use Rattle.accept.specs.Ranges.{within, bounds, coordinates}
-use Rattle.accept.specs.Refusal.{first_failed}
+use Rattle.accept.specs.Refusal.{checked}
 use Rattle.accept.specs.Tables.{at_most, column, numbers_below, starts_monotone}
+use Rattle.accept.specs.declared.refusal.Refusal.{Refusal}
+use Rattle.accept.specs.declared.refusal.Refusal.TheVariants as Why
 use Rattle.grid.specs.Lent.{Grid, cells_of}
 use Rattle.grid.specs.Cells.{dims_of, cells}
 
@@ -21,28 +23,28 @@ tables_hold g = ltb (cells_of g) (length g.starts) && leb g.n (length g.items)
 unfoldable pub list_fits : Grid → Bool
 list_fits g = starts_monotone g.starts (cells_of g) g.n && numbers_below g.items g.n g.n
 
--- the tests in their order, each with its number; those of the call's own numbers are few (2), ranged (3), lent (4) and floats (5)
-abbrev pub tests : Grid → Bool → Bool → Bool → Bool → List (ℕ × Bool)
+-- the tests in their order, each with its refusal; those of the call's own numbers are few (2), ranged (3), lent (4) and floats (5)
+abbrev pub tests : Grid → Bool → Bool → Bool → Bool → List (Refusal × Bool)
 tests g few ranged lent floats =
-    (2, at_most g.n max_surfels && few)
-    ∷ (3, sized g.lo g.hi g.side && ranged)
-    ∷ (4, tables_hold g && lent)
-    ∷ (5, floats)
-    ∷ (7, list_fits g)
+    (Why.Count, at_most g.n max_surfels && few)
+    ∷ (Why.Range, sized g.lo g.hi g.side && ranged)
+    ∷ (Why.Length, tables_hold g && lent)
+    ∷ (Why.Float, floats)
+    ∷ (Why.Numbers, list_fits g)
     ∷ []
 
--- the number that refuses a call on this grid, 0 if none does
-unfoldable pub refusal : Grid → Bool → Bool → Bool → Bool → ℕ
-refusal g few ranged lent floats = first_failed (tests g few ranged lent floats)
+-- what refuses a call on this grid
+unfoldable pub check : Grid → Bool → Bool → Bool → Bool → Result Unit Refusal
+check g few ranged lent floats = checked (tests g few ranged lent floats)
 
 -- the tests of n points that are put into a grid, whose slices have these lengths
-abbrev pub build_tests : ℕ → List Float → Vec3 → Vec3 → Float → ℕ → ℕ → List (ℕ × Bool)
+abbrev pub build_tests : ℕ → List Float → Vec3 → Vec3 → Float → ℕ → ℕ → List (Refusal × Bool)
 build_tests n p lo hi side starts items =
-    (2, at_most n max_surfels)
-    ∷ (3, sized lo hi side)
-    ∷ (4, conj (column p n ∷ ltb (cells (dims_of lo hi side)) starts ∷ leb n items ∷ []))
-    ∷ (5, coordinates p n)
+    (Why.Count, at_most n max_surfels)
+    ∷ (Why.Range, sized lo hi side)
+    ∷ (Why.Length, conj (column p n ∷ ltb (cells (dims_of lo hi side)) starts ∷ leb n items ∷ []))
+    ∷ (Why.Float, coordinates p n)
     ∷ []
 
-unfoldable pub build_refusal : ℕ → List Float → Vec3 → Vec3 → Float → ℕ → ℕ → ℕ
-build_refusal n p lo hi side starts items = first_failed (build_tests n p lo hi side starts items)
+unfoldable pub check_build : ℕ → List Float → Vec3 → Vec3 → Float → ℕ → ℕ → Result Unit Refusal
+check_build n p lo hi side starts items = checked (build_tests n p lo hi side starts items)

@@ -3,28 +3,31 @@ ghost use Rattle.std.specs.Prelude.{◌≡◌, ◌<◌};
 ghost use Rattle.grid.specs.Visiting.{first_near, count_near};
 ghost use Rattle.grid.specs.Rows.{block_near};
 
-use crate::layout::{cell_number, cell_of, dims_of};
-use crate::{Block, Cell};
+use crate::{Block, Cell, Space};
 use vector::Vec3;
 
-// The cells within reach of the one that p lies in, in the grid of the box from lo to hi.
-pub fn block_near(lo: Vec3, hi: Vec3, cell: f32, p: Vec3, reach: usize) -> Block
-    ensures { result ≡ block_near lo hi cell p reach }
-{
-    let dim = dims_of(lo, hi, cell);
-    let c = cell_of(p, lo, 1.0 / cell, dim);
-    let corner = Cell {
-        x: first_near(c.x, reach),
-        y: first_near(c.y, reach),
-        z: first_near(c.z, reach),
-    };
-    Block {
-        first: cell_number(dim, corner),
-        wide: count_near(c.x, reach, dim.x),
-        rows: count_near(c.y, reach, dim.y),
-        layers: count_near(c.z, reach, dim.z),
-        row_step: dim.x,
-        layer_step: dim.x * dim.y,
+impl Space {
+    // The cells within reach of the one that p lies in.
+    #[tactic(auto, unfolding(crate::specs::Rows::block_near))]
+    pub fn block_near(self, p: Vec3, reach: usize) -> Block
+        ensures { result ≡ block_near self.lo self.hi self.cell p reach }
+    {
+        let frame = self.frame();
+        let dim = frame.dim;
+        let c = frame.cell_of(p);
+        let corner = Cell {
+            x: first_near(c.x, reach),
+            y: first_near(c.y, reach),
+            z: first_near(c.z, reach),
+        };
+        Block {
+            first: frame.cell_number(corner),
+            wide: count_near(c.x, reach, dim.x),
+            rows: count_near(c.y, reach, dim.y),
+            layers: count_near(c.z, reach, dim.z),
+            row_step: dim.x,
+            layer_step: dim.x * dim.y,
+        }
     }
 }
 

@@ -1,67 +1,53 @@
-// Whether a grid is accepted, and which number refuses a call on it.
+// Whether a grid is accepted, and why a call on it is refused.
 ghost use Rattle.std.specs.Prelude.{◌≡◌};
-ghost use Rattle.grid.specs.Checks.{sized, build_refusal, refusal};
-ghost use Rattle.grid.specs.Lent.{grid_in};
+ghost use Rattle.grid.specs.Checks.{sized, check, check_build};
 
-use crate::layout::cells;
+use crate::{Grid, Space};
 use accept::limits::{MAX_CELL, MAX_SURFELS, MIN_CELL};
-use accept::{at_most, bounds, coordinates, holds, numbers_below, starts_monotone, unless, within};
-use vector::Vec3;
+use accept::{
+    Refusal, at_most, bounds, coordinates, holds, numbers_below, require, starts_monotone, within,
+};
 
-// The number that refuses a call on this grid, 0 if none does. The call's own tests of 2, 3, 4 and
-// 5 are handed in.
-pub fn refusal(
-    n: usize,
-    starts: &[u32],
-    items: &[u32],
-    lo: Vec3,
-    hi: Vec3,
-    cell: f32,
-    few: bool,
-    ranged: bool,
-    lent: bool,
-    floats: bool,
-) -> u32
-    ensures { result ≡ refusal (grid_in n starts items lo hi cell) few ranged lent floats }
+// What refuses a call on this grid. The call's own tests of 2, 3, 4 and 5 are handed in.
+#[tactic(auto, unfolding(crate::specs::Checks::check, crate::specs::Checks::tables_hold, crate::specs::Checks::list_fits, accept::specs::Refusal::checked))]
+pub fn check(grid: &Grid, few: bool, ranged: bool, lent: bool, floats: bool) -> Result<(), Refusal>
+    ensures { result ≡ check grid.now few ranged lent floats }
 {
-    let count = cells(lo, hi, cell);
-    let listed = starts_monotone(starts, count, n) & numbers_below(items, n, n);
-    let tables = (count < starts.len()) & (n <= items.len());
-    let fits = unless(floats, 5, unless(listed, 7, 0));
-    let sizes = unless(
-        sized(lo, hi, cell) & ranged,
-        3,
-        unless(tables & lent, 4, fits),
-    );
-    unless(at_most(n, MAX_SURFELS) & few, 2, sizes)
+    let n = grid.n;
+    let cells = grid.space.cells();
+    let tables = (cells < grid.starts.len()) & (n <= grid.items.len());
+    let listed = starts_monotone(grid.starts, cells, n) & numbers_below(grid.items, n, n);
+    require(at_most(n, MAX_SURFELS) & few, Refusal::Count)?;
+    require(grid.space.sized() & ranged, Refusal::Range)?;
+    require(tables & lent, Refusal::Length)?;
+    require(floats, Refusal::Float)?;
+    require(listed, Refusal::Numbers)
 }
 
-// The number that refuses to build a grid of these points in slices of these lengths, 0 if none
-// does.
-pub fn build_refusal(
+// What refuses to build a grid of these points in slices of these lengths.
+#[tactic(auto, unfolding(crate::specs::Checks::check_build, accept::specs::Refusal::checked))]
+pub fn check_build(
     n: usize,
     p: &[f32],
-    lo: Vec3,
-    hi: Vec3,
-    cell: f32,
+    space: Space,
     starts: usize,
     items: usize,
-) -> u32
-    ensures { result ≡ build_refusal n p.now lo hi cell starts items }
+) -> Result<(), Refusal>
+    ensures { result ≡ check_build n p.now space.lo space.hi space.cell starts items }
 {
-    let floats = coordinates(p, n);
-    let lent = holds(p.len(), n, 3) & (cells(lo, hi, cell) < starts) & (n <= items);
-    let sizes = unless(
-        sized(lo, hi, cell),
-        3,
-        unless(lent, 4, unless(floats, 5, 0)),
-    );
-    unless(at_most(n, MAX_SURFELS), 2, sizes)
+    let lent = holds(p.len(), n, 3) & (space.cells() < starts) & (n <= items);
+    require(at_most(n, MAX_SURFELS), Refusal::Count)?;
+    require(space.sized(), Refusal::Range)?;
+    require(lent, Refusal::Length)?;
+    require(coordinates(p, n), Refusal::Float)
 }
 
-// Whether the box and the side of a cell are in their range.
-pub fn sized(lo: Vec3, hi: Vec3, cell: f32) -> bool
-    ensures { result ≡ sized lo hi cell }
-{
-    bounds(lo, hi) & within(cell, MIN_CELL, MAX_CELL)
+impl Space {
+    // Whether the box and the side of a cell are in their range.
+    #[tactic(auto, unfolding(crate::specs::Checks::sized))]
+    pub fn sized(self) -> bool
+        ensures { result ≡ sized self.lo self.hi self.cell }
+    {
+        bounds(self.lo, self.hi) & within(self.cell, MIN_CELL, MAX_CELL)
+    }
 }

@@ -11,12 +11,39 @@ mod building;
 mod checks;
 mod entries;
 mod layout;
-mod listing;
+mod walking;
 
-pub use blocks::block_near;
-pub use checks::{refusal, sized};
+pub use checks::check;
 pub use entries::{grid_build, near};
-pub use layout::{cell_of, cells, dims_of};
+pub use layout::cell_of;
+use std::marker::Model;
+use vector::Vec3;
+pub use walking::{Fitted, Rows};
+
+// A box from lo to hi, and the side of the cells that divide it.
+#[derive(Clone, Copy)]
+pub struct Space {
+    pub lo: Vec3,
+    pub hi: Vec3,
+    pub cell: f32,
+}
+
+// A grid of n points as it is lent.
+#[derive(Drop)]
+pub struct Grid<'a> {
+    pub n: usize,
+    pub starts: &'a [u32],
+    pub items: &'a [u32],
+    pub space: Space,
+}
+
+impl<'a> Model for Grid<'a> {
+    ghost use Rattle.grid.specs.Lent.{Grid as Lent, grid_of};
+
+    ghost Value = { Lent };
+
+    ghost view = { λ g. grid_of g.n g.starts.now g.items.now g.space.lo g.space.hi g.space.cell };
+}
 
 // How many cells a grid has on each axis.
 #[derive(Clone, Copy)]
@@ -45,18 +72,4 @@ pub struct Block {
     pub layers: usize,
     pub row_step: usize,
     pub layer_step: usize,
-}
-
-// What the entries answer: refused with a number, or done, with the dimensions of the grid or with
-// how many numbers the list has.
-#[derive(Clone, Copy)]
-pub enum GridAnswer {
-    Refused(u32),
-    Done(Dims),
-}
-
-#[derive(Clone, Copy)]
-pub enum NearAnswer {
-    Refused(u32),
-    Done(usize),
 }

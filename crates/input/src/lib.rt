@@ -8,6 +8,9 @@ use std::io::Read;
 
 // Reads until the buffer is full or the input ends, and returns how many bytes it put at the
 // buffer's start.
+//
+// Kept: a loop over `read`, since `read_exact` fails where the input ends first and then says nothing of
+// how many bytes came.
 pub fn read_full(rt: &impl Input, buf: &mut [u8]) -> io::Result<usize>
     ensures { IfOk result (λ n. n ≤ length buf.new) }
 {

@@ -3,7 +3,9 @@ use mathlib.Core.List.{List}
 use mathlib.Core.Path.{◌≡◌}
 use Prim.Native.Nat.{ℕ}
 use lib.Ieee.{Float}
-use Rattle.room.specs.declared.ReadAnswer.{ReadAnswer}
+use Rattle.std.specs.Prelude.{Result}
+use Rattle.accept.specs.declared.refusal.Refusal.{Refusal}
+use Rattle.room.specs.declared.Head.{Head}
 use Rattle.room.specs.Answers.{room_read_answer}
 use Rattle.room.specs.Lent.{Columns}
 use Rattle.outs.specs.Reading.{read_left}
@@ -30,6 +32,6 @@ module _ {A O : Type 0} (left : A → O → ℕ × O) {a : A} {held o : O} {r : 
   told_with_three e = rw (← e, ← t)
 
 -- a file that is read: two things are told, and its columns left
-module _ (b : List ℕ) (counts : List ℕ) (sizes : List Float) (l k : Columns) {answer : ReadAnswer} (e : (answer, k) ≡ room_read_answer b l) where
+module _ (b : List ℕ) (counts : List ℕ) (sizes : List Float) (l k : Columns) {answer : Result Head Refusal} (e : (answer, k) ≡ room_read_answer b l) where
   pub told_read : {r : ℕ} {c : List ℕ} {s : List Float} → (r, c, s) ≡ read_left answer counts sizes → (r, c, s, k) ≡ interflect_room_read b counts sizes l
   told_read t = rw (← e, ← t)

@@ -3,11 +3,11 @@
 use Rattle.std.specs.Prelude.{ℕ}
 use Rattle.placement.specs.Answers.{generate_answer}
 use Rattle.placement.specs.Lent.{Request, Columns}
-use Rattle.outs.specs.Placing.{generate_left}
+use Rattle.outs.specs.Outs.{left}
 
 -- the entry
 abbrev pub interflect_generate : Request → ℕ → Columns → ℕ → ℕ → ℕ × ℕ × Columns
 interflect_generate o held l head next =
     let a = generate_answer o l head next in
-    let left = generate_left a.0 held in
-    (left.0, left.1, a.1)
+    let told = left a.0 held in
+    (told.0, told.1, a.1)

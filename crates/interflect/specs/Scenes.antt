@@ -7,21 +7,21 @@ use Rattle.field.specs.declared.DistHit.{DistHit}
 use Rattle.scene.specs.declared.Shadow.{Shadow}
 use Rattle.tables.specs.Tables.{Scene}
 use Rattle.scene.specs.Answers.{dist_mat_answer, normal_answer, trace_answer, soft_shadow_answer, hemisphere_closure_answer}
-use Rattle.outs.specs.Outs.{TraceOut}
-use Rattle.outs.specs.Scenes.{dist_left, normal_left, trace_left, shadow_left, closure_left}
+use Rattle.outs.specs.Outs.{TraceOut, left}
+use Rattle.outs.specs.Scenes.{trace_left}
 
 -- the entries
 abbrev pub interflect_dist_mat : Scene → Vec3 → DistHit → ℕ × DistHit
-interflect_dist_mat s p held = dist_left (dist_mat_answer s p) held
+interflect_dist_mat s p held = left (dist_mat_answer s p) held
 
 abbrev pub interflect_normal : Scene → Vec3 → Vec3 → ℕ × Vec3
-interflect_normal s p held = normal_left (normal_answer s p) held
+interflect_normal s p held = left (normal_answer s p) held
 
 abbrev pub interflect_trace : Scene → Vec3 → Vec3 → Float → Float → TraceOut → ℕ × TraceOut
 interflect_trace s ro rd tmin tmax held = trace_left (trace_answer s ro rd tmin tmax) held
 
 abbrev pub interflect_soft_shadow : Scene → Vec3 → Vec3 → Float → Float → Float → Shadow → ℕ × Shadow
-interflect_soft_shadow s ro rd tmin tmax k held = shadow_left (soft_shadow_answer s ro rd tmin tmax k) held
+interflect_soft_shadow s ro rd tmin tmax k held = left (soft_shadow_answer s ro rd tmin tmax k) held
 
 abbrev pub interflect_hemisphere_closure : Scene → Vec3 → Vec3 → Float → Closure → ℕ × Closure
-interflect_hemisphere_closure s p n tmax held = closure_left (hemisphere_closure_answer s p n tmax) held
+interflect_hemisphere_closure s p n tmax held = left (hemisphere_closure_answer s p n tmax) held

@@ -6,15 +6,9 @@ use Rattle.reset.specs.Resetting.{reset_answer}
 use Rattle.records.specs.Columns.{directs, irrs, rads}
 use Rattle.records.specs.declared.Light.{Light as LightRecord}
 use Rattle.transfer.specs.Room.{Room, Light}
-use Rattle.reset.specs.declared.ResetAnswer.{ResetAnswer}
-use Rattle.reset.specs.declared.ResetAnswer.TheVariants as Reset
+use Rattle.accept.specs.Refusal.{refusal_number}
 use Rattle.solve.specs.declared.SolveStats.{SolveStats}
 use Rattle.outs.specs.Solves.{solve_left}
-
--- what a reset answers: a refusal's number, else 0
-abbrev pub reset_left : ResetAnswer → ℕ
-reset_left (Reset.Refused number) = number
-reset_left Reset.Done = 0
 
 -- the entries
 abbrev pub interflect_solve : Room → ℕ → SolveStats → Light → List Float → ℕ × SolveStats × Light × List Float
@@ -26,7 +20,7 @@ interflect_solve r limit held l s =
 abbrev pub interflect_reset : List Float → List Float → List Float → List Float → ℕ × List Float × List Float × List Float
 interflect_reset light direct irr rad =
     let a = reset_answer light direct irr rad in
-    (reset_left a.0, a.1, a.2, a.3)
+    (refusal_number a.0, a.1, a.2, a.3)
 
 -- a number with the three columns of the records that a call left
 abbrev pub records_left : ℕ → List LightRecord → ℕ × List Float × List Float × List Float

@@ -8,21 +8,22 @@ use Rattle.grid.specs.declared.Dims.{Dims}
 use Rattle.surfel.specs.Checks.{Probes}
 use Rattle.surfel.specs.Answers.{gather_answer, gather_all_answer}
 use Rattle.surfel.specs.Gathering.{Surfels}
-use Rattle.outs.specs.Outs.{ReadingOut}
-use Rattle.outs.specs.Surfels.{grid_left, near_left, gather_left, gather_all_left}
+use Rattle.accept.specs.Refusal.{refusal_number}
+use Rattle.outs.specs.Outs.{ReadingOut, left}
+use Rattle.outs.specs.Surfels.{gather_left}
 
 -- the entries
 abbrev pub interflect_grid_build : ℕ → List Float → Vec3 → Vec3 → Float → Dims → List ℕ → List ℕ → ℕ × Dims × List ℕ × List ℕ
 interflect_grid_build n p lo hi size held starts items =
     let r = grid_build_answer n p lo hi size starts items in
-    let left = grid_left r.0 held in
-    (left.0, left.1, r.1, r.2)
+    let told = left r.0 held in
+    (told.0, told.1, r.1, r.2)
 
 abbrev pub interflect_near : Grid → Vec3 → ℕ → ℕ → List ℕ → ℕ × ℕ × List ℕ
 interflect_near g p reach held list =
     let r = near_answer g p reach list in
-    let left = near_left r.0 held in
-    (left.0, left.1, r.1)
+    let told = left r.0 held in
+    (told.0, told.1, r.1)
 
 abbrev pub interflect_gather : Grid → Surfels → Vec3 → Vec3 → Float → ReadingOut → ℕ × ReadingOut
 interflect_gather g s at normal radius held = gather_left (gather_answer g s at normal radius) held
@@ -30,4 +31,4 @@ interflect_gather g s at normal radius held = gather_left (gather_answer g s at 
 abbrev pub interflect_gather_all : Grid → Surfels → Probes → List ℕ → List Float → ℕ × List ℕ × List Float
 interflect_gather_all g s q seen light =
     let r = gather_all_answer g s q seen light in
-    (gather_all_left r.0, r.1, r.2)
+    (refusal_number r.0, r.1, r.2)

@@ -7,6 +7,7 @@ ghost use Rattle.clusters.specs.Answers.{scratch_open};
 ghost use Rattle.outs.specs.Outs.{clustered_outs};
 ghost use Rattle.interflect.specs.Rows.{interflect_build_clusters};
 
+use clusters::{Columns, Cut, Surfels};
 use vector::Vec3;
 
 // Makes clusters of n surfels, by the voxel that each stands in, of res voxels on each axis of the
@@ -48,31 +49,34 @@ pub extern "C" fn interflect_build_clusters(
         (columns_in cluster_p cluster_n cluster_area cluster_radius first count members) (length order.old) (length
         spare.old)) spare }
 {
-    let answer = clusters::build_clusters(
+    let surfels = Surfels {
         n,
         p,
         normals,
         area,
-        Vec3 {
+    };
+    let cut = Cut {
+        lo: Vec3 {
             x: lox,
             y: loy,
             z: loz,
         },
-        Vec3 {
+        hi: Vec3 {
             x: hix,
             y: hiy,
             z: hiz,
         },
         res,
-        cluster_p,
-        cluster_n,
-        cluster_area,
-        cluster_radius,
+    };
+    let columns = Columns {
+        p: cluster_p,
+        n: cluster_n,
+        area: cluster_area,
+        radius: cluster_radius,
         first,
         count,
-        members,
-        order,
-        spare,
-    );
+        member: members,
+    };
+    let answer = clusters::build_clusters(&surfels, cut, columns, order, spare);
     outs::tell_clustered(answer, made, listed)
 }

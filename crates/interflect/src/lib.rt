@@ -2,6 +2,8 @@
 // `&mut` to a number. `rt lib` in this folder makes one library of it.
 //
 // Each entry returns 0, or the number of the refusal. No function here asks anything of its caller.
+//
+// Kept: numbers and slices one by one, and counts beside slices, since C has no other form for them.
 #![tactic(auto)]
 
 mod clustering;

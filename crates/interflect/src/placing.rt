@@ -7,6 +7,8 @@ ghost use Rattle.placement.specs.Lent.{request_in, columns_in, columns_out};
 ghost use Rattle.placement.specs.Answers.{head_open, next_open};
 ghost use Rattle.interflect.specs.Placing.{interflect_generate};
 
+use placement::Request;
+use tables::Scene;
 use vector::Vec3;
 
 // Places at most `target` surfels on the surface of a scene, within the box from lo to hi: count
@@ -51,7 +53,7 @@ pub extern "C" fn interflect_generate(
         (vec lox loy loz) (vec hix hiy hiz) target) (columns_in p n albedo area direct irr rad) (length head.old)
         (length next.old)) next }
 {
-    let answer = placement::generate(
+    let scene = Scene {
         prims,
         planes,
         objects,
@@ -59,28 +61,23 @@ pub extern "C" fn interflect_generate(
         lengths,
         plane_parts,
         object_parts,
+    };
+    let request = Request {
+        scene,
         mats,
         materials,
-        Vec3 {
+        lo: Vec3 {
             x: lox,
             y: loy,
             z: loz,
         },
-        Vec3 {
+        hi: Vec3 {
             x: hix,
             y: hiy,
             z: hiz,
         },
         target,
-        p,
-        n,
-        albedo,
-        area,
-        direct,
-        irr,
-        rad,
-        head,
-        next,
-    );
+    };
+    let answer = placement::generate(&request, p, n, albedo, area, direct, irr, rad, head, next);
     outs::tell_placed(answer, count)
 }

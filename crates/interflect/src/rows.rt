@@ -9,6 +9,8 @@ ghost use Rattle.formfactor.specs.Answers.{scratch_open};
 ghost use Rattle.outs.specs.Outs.{build_outs};
 ghost use Rattle.interflect.specs.Rows.{interflect_build};
 
+use formfactor::{Emitters, Surfels};
+use tables::Scene;
 use vector::Vec3;
 
 // Builds the rows of n surfels over nc clusters: links becomes how many links they have,
@@ -62,7 +64,7 @@ pub extern "C" fn interflect_build(
         (diagonal (vec lox loy loz) (vec hix hiy hiz)) n p normals (emitters_in nc cluster_p cluster_n cluster_area cluster_radius))
         (length starts.old) (length link.old) (length weight.old)) weight }
 {
-    let answer = formfactor::build(
+    let scene = Scene {
         prims,
         planes,
         objects,
@@ -70,6 +72,17 @@ pub extern "C" fn interflect_build(
         lengths,
         plane_parts,
         object_parts,
+    };
+    let surfels = Surfels { n, p, normals };
+    let emitters = Emitters {
+        nc,
+        p: cluster_p,
+        n: cluster_n,
+        area: cluster_area,
+        radius: cluster_radius,
+    };
+    let answer = formfactor::build(
+        &scene,
         Vec3 {
             x: lox,
             y: loy,
@@ -80,14 +93,8 @@ pub extern "C" fn interflect_build(
             y: hiy,
             z: hiz,
         },
-        n,
-        p,
-        normals,
-        nc,
-        cluster_p,
-        cluster_n,
-        cluster_area,
-        cluster_radius,
+        &surfels,
+        &emitters,
         starts,
         link_cluster,
         link_weight,

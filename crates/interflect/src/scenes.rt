@@ -5,6 +5,8 @@ ghost use Rattle.tables.specs.Tables.{scene_in};
 ghost use Rattle.outs.specs.Outs.{dist_outs, vec_outs, hit_outs, trace_outs, shadow_outs, closure_outs};
 ghost use Rattle.interflect.specs.Scenes.{interflect_dist_mat, interflect_normal, interflect_trace, interflect_soft_shadow, interflect_hemisphere_closure};
 
+use scene::Ray;
+use tables::Scene;
 use vector::Vec3;
 
 // The distance from x y z to the nearest of the scene, and its material.
@@ -26,7 +28,7 @@ pub extern "C" fn interflect_dist_mat(
     ensures { (result, (dist_outs d mat).exit)
         ≡ interflect_dist_mat (scene_in prims planes objects kinds lengths plane_parts object_parts) (vec x y z) (dist_outs d mat).entry }
 {
-    let answer = scene::dist_mat(
+    let scene = Scene {
         prims,
         planes,
         objects,
@@ -34,8 +36,8 @@ pub extern "C" fn interflect_dist_mat(
         lengths,
         plane_parts,
         object_parts,
-        Vec3 { x, y, z },
-    );
+    };
+    let answer = scene::dist_mat(&scene, Vec3 { x, y, z });
     outs::tell_nearest(answer, d, mat)
 }
 
@@ -59,7 +61,7 @@ pub extern "C" fn interflect_normal(
     ensures { (result, (vec_outs nx ny nz).exit)
         ≡ interflect_normal (scene_in prims planes objects kinds lengths plane_parts object_parts) (vec x y z) (vec_outs nx ny nz).entry }
 {
-    let answer = scene::normal(
+    let scene = Scene {
         prims,
         planes,
         objects,
@@ -67,8 +69,8 @@ pub extern "C" fn interflect_normal(
         lengths,
         plane_parts,
         object_parts,
-        Vec3 { x, y, z },
-    );
+    };
+    let answer = scene::normal(&scene, Vec3 { x, y, z });
     outs::tell_normal(answer, nx, ny, nz)
 }
 
@@ -106,7 +108,7 @@ pub extern "C" fn interflect_trace(
         ≡ interflect_trace (scene_in prims planes objects kinds lengths plane_parts object_parts) (vec rox roy roz) (vec rdx rdy rdz) tmin tmax
         (trace_outs hit (hit_outs t px py pz nx ny nz mat) evals).entry }
 {
-    let answer = scene::trace(
+    let scene = Scene {
         prims,
         planes,
         objects,
@@ -114,19 +116,22 @@ pub extern "C" fn interflect_trace(
         lengths,
         plane_parts,
         object_parts,
-        Vec3 {
+    };
+    let ray = Ray {
+        ro: Vec3 {
             x: rox,
             y: roy,
             z: roz,
         },
-        Vec3 {
+        rd: Vec3 {
             x: rdx,
             y: rdy,
             z: rdz,
         },
         tmin,
         tmax,
-    );
+    };
+    let answer = scene::trace(&scene, ray);
     outs::tell_traced(answer, hit, t, px, py, pz, nx, ny, nz, mat, evals)
 }
 
@@ -156,7 +161,7 @@ pub extern "C" fn interflect_soft_shadow(
         ≡ interflect_soft_shadow (scene_in prims planes objects kinds lengths plane_parts object_parts) (vec rox roy roz) (vec rdx rdy rdz) tmin tmax k
         (shadow_outs visibility evals).entry }
 {
-    let answer = scene::soft_shadow(
+    let scene = Scene {
         prims,
         planes,
         objects,
@@ -164,20 +169,22 @@ pub extern "C" fn interflect_soft_shadow(
         lengths,
         plane_parts,
         object_parts,
-        Vec3 {
+    };
+    let ray = Ray {
+        ro: Vec3 {
             x: rox,
             y: roy,
             z: roz,
         },
-        Vec3 {
+        rd: Vec3 {
             x: rdx,
             y: rdy,
             z: rdz,
         },
         tmin,
         tmax,
-        k,
-    );
+    };
+    let answer = scene::soft_shadow(&scene, ray, k);
     outs::tell_shadow(answer, visibility, evals)
 }
 
@@ -205,7 +212,7 @@ pub extern "C" fn interflect_hemisphere_closure(
         ≡ interflect_hemisphere_closure (scene_in prims planes objects kinds lengths plane_parts object_parts) (vec px py pz) (vec nx ny nz) tmax
         (closure_outs sky evals).entry }
 {
-    let answer = scene::hemisphere_closure(
+    let scene = Scene {
         prims,
         planes,
         objects,
@@ -213,6 +220,9 @@ pub extern "C" fn interflect_hemisphere_closure(
         lengths,
         plane_parts,
         object_parts,
+    };
+    let answer = scene::hemisphere_closure(
+        &scene,
         Vec3 {
             x: px,
             y: py,

@@ -2,10 +2,11 @@
 ghost use Rattle.std.specs.Prelude.{◌≡◌};
 ghost use Rattle.transfer.specs.Room.{room_in, light_in, light_out};
 ghost use Rattle.outs.specs.Outs.{stats_outs};
-ghost use Rattle.interflect.specs.Solves.{reset_left, records_left, interflect_solve, interflect_reset, interflect_reset_records};
+ghost use Rattle.interflect.specs.Solves.{records_left, interflect_solve, interflect_reset, interflect_reset_records};
 
+use accept::refusal_number;
 use records::Light;
-use reset::ResetAnswer;
+use transfer::{Clusters, Room, Rows};
 
 // Bounces the light of n surfels until the last change is under 0.0001 or the limit is made:
 // bounces becomes how many were made, change the greatest absolute step of any channel of rad in
@@ -37,26 +38,27 @@ pub extern "C" fn interflect_solve(
         ≡ interflect_solve (room_in n nc members links albedo area direct cluster_area first count member starts link_cluster link_weight) limit
         (stats_outs bounces change).entry (light_in irr rad) scratch.old }
 {
-    let answer = solve::solve(
+    let room = Room {
         n,
-        nc,
-        members,
-        links,
-        limit,
         albedo,
         area,
         direct,
-        cluster_area,
-        first,
-        count,
-        member,
-        starts,
-        link_cluster,
-        link_weight,
-        irr,
-        rad,
-        scratch,
-    );
+        clusters: Clusters {
+            nc,
+            members,
+            area: cluster_area,
+            first,
+            count,
+            member,
+        },
+        rows: Rows {
+            links,
+            starts,
+            cluster: link_cluster,
+            weight: link_weight,
+        },
+    };
+    let answer = solve::solve(&room, limit, irr, rad, scratch);
     outs::tell_solved(answer, bounces, change)
 }
 
@@ -71,8 +73,7 @@ pub extern "C" fn interflect_reset(
     ensures { (result, direct.new, irr.new, rad.new)
         ≡ interflect_reset light.now direct.old irr.old rad.old }
 {
-    let answer = reset::reset(light, direct, irr, rad);
-    reset_number(answer)
+    refusal_number(reset::reset(light, direct, irr, rad))
 }
 
 // Sets direct and rad of each record to the given light, three floats a record, and irr to zero.
@@ -80,16 +81,5 @@ pub extern "C" fn interflect_reset(
 pub extern "C" fn interflect_reset_records(light: &[f32], records: &mut [Light]) -> u32
     ensures { records_left result records.new ≡ interflect_reset_records light.now records.old }
 {
-    let answer = records::reset_records(light, records);
-    reset_number(answer)
-}
-
-// The number that a reset was refused with, 0 where it was done.
-fn reset_number(answer: ResetAnswer) -> u32
-    ensures { result ≡ reset_left answer }
-{
-    match answer {
-        ResetAnswer::Refused(number) => number,
-        ResetAnswer::Done => 0,
-    }
+    refusal_number(records::reset_records(light, records))
 }

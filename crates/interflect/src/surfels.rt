@@ -7,6 +7,8 @@ ghost use Rattle.surfel.specs.Gathering.{surfels_in};
 ghost use Rattle.outs.specs.Outs.{dims_outs, reading_outs};
 ghost use Rattle.interflect.specs.Surfels.{interflect_grid_build, interflect_near, interflect_gather, interflect_gather_all};
 
+use grid::{Grid, Space};
+use surfel::{Probes, Surfels};
 use vector::Vec3;
 
 // Puts n points into the cells of the box from lo to hi: starts has where each cell begins in
@@ -32,17 +34,20 @@ pub extern "C" fn interflect_grid_build(
         ≡ interflect_grid_build n p.now (vec lox loy loz) (vec hix hiy hiz) cell (dims_outs dx dy dz).entry
         starts.old items.old }
 {
-    let lo = Vec3 {
-        x: lox,
-        y: loy,
-        z: loz,
+    let space = Space {
+        lo: Vec3 {
+            x: lox,
+            y: loy,
+            z: loz,
+        },
+        hi: Vec3 {
+            x: hix,
+            y: hiy,
+            z: hiz,
+        },
+        cell,
     };
-    let hi = Vec3 {
-        x: hix,
-        y: hiy,
-        z: hiz,
-    };
-    let answer = grid::grid_build(n, p, lo, hi, cell, starts, items);
+    let answer = grid::grid_build(n, p, space, starts, items);
     outs::tell_dims(answer, dx, dy, dz)
 }
 
@@ -71,22 +76,31 @@ pub extern "C" fn interflect_near(
         ≡ interflect_near (grid_in n starts items (vec lox loy loz) (vec hix hiy hiz) cell) (vec px py pz) reach
         count.old list.old }
 {
-    let lo = Vec3 {
-        x: lox,
-        y: loy,
-        z: loz,
-    };
-    let hi = Vec3 {
-        x: hix,
-        y: hiy,
-        z: hiz,
+    let space = Space {
+        lo: Vec3 {
+            x: lox,
+            y: loy,
+            z: loz,
+        },
+        hi: Vec3 {
+            x: hix,
+            y: hiy,
+            z: hiz,
+        },
+        cell,
     };
     let p = Vec3 {
         x: px,
         y: py,
         z: pz,
     };
-    let answer = grid::near(n, starts, items, lo, hi, cell, p, reach, list);
+    let grid = Grid {
+        n,
+        starts,
+        items,
+        space,
+    };
+    let answer = grid::near(&grid, p, reach, list);
     outs::tell_listed(answer, count)
 }
 
@@ -123,15 +137,18 @@ pub extern "C" fn interflect_gather(
         ≡ interflect_gather (grid_in n starts items (vec lox loy loz) (vec hix hiy hiz) cell) (surfels_in p normals irr)
         (vec atx aty atz) (vec nx ny nz) radius (reading_outs seen x y z).entry }
 {
-    let lo = Vec3 {
-        x: lox,
-        y: loy,
-        z: loz,
-    };
-    let hi = Vec3 {
-        x: hix,
-        y: hiy,
-        z: hiz,
+    let space = Space {
+        lo: Vec3 {
+            x: lox,
+            y: loy,
+            z: loz,
+        },
+        hi: Vec3 {
+            x: hix,
+            y: hiy,
+            z: hiz,
+        },
+        cell,
     };
     let at = Vec3 {
         x: atx,
@@ -143,9 +160,14 @@ pub extern "C" fn interflect_gather(
         y: ny,
         z: nz,
     };
-    let answer = surfel::gather(
-        n, starts, items, lo, hi, cell, p, normals, irr, at, normal, radius,
-    );
+    let grid = Grid {
+        n,
+        starts,
+        items,
+        space,
+    };
+    let surfels = Surfels { p, normals, irr };
+    let answer = surfel::gather(&grid, &surfels, at, normal, radius);
     outs::tell_reading(answer, seen, x, y, z)
 }
 
@@ -177,32 +199,32 @@ pub extern "C" fn interflect_gather_all(
         ≡ interflect_gather_all (grid_in n starts items (vec lox loy loz) (vec hix hiy hiz) cell) (surfels_in p normals irr)
         (probes_in probes probe_p probe_normals radius) seen.old light.old }
 {
-    let lo = Vec3 {
-        x: lox,
-        y: loy,
-        z: loz,
+    let space = Space {
+        lo: Vec3 {
+            x: lox,
+            y: loy,
+            z: loz,
+        },
+        hi: Vec3 {
+            x: hix,
+            y: hiy,
+            z: hiz,
+        },
+        cell,
     };
-    let hi = Vec3 {
-        x: hix,
-        y: hiy,
-        z: hiz,
-    };
-    let answer = surfel::gather_all(
+    let grid = Grid {
         n,
         starts,
         items,
-        lo,
-        hi,
-        cell,
-        p,
-        normals,
-        irr,
-        probes,
-        probe_p,
-        probe_normals,
+        space,
+    };
+    let surfels = Surfels { p, normals, irr };
+    let probes = Probes {
+        count: probes,
+        p: probe_p,
+        normals: probe_normals,
         radius,
-        seen,
-        light,
-    );
-    outs::readings_number(answer)
+    };
+    let answer = surfel::gather_all(&grid, &surfels, &probes, seen, light);
+    accept::refusal_number(answer)
 }

@@ -1,13 +1,14 @@
 // The answer as words: the number of a refusal alone, or zero and what stands in the file beside its
 // columns.
+use accept::Refusal;
 use replay::{Words, refused};
-use room::{Head, ReadAnswer};
+use room::Head;
 
 // The words of an answer.
-pub fn told(answer: ReadAnswer) -> Words {
+pub fn told(answer: Result<Head, Refusal>) -> Words {
     match answer {
-        ReadAnswer::Refused(number) => refused(number),
-        ReadAnswer::Done(head) => with_bounds(with_counts(refused(0), head), head),
+        Ok(head) => with_bounds(with_counts(refused(0), head), head),
+        Err(refusal) => refused(u32::from(refusal)),
     }
 }
 

@@ -14,7 +14,9 @@ use Rattle.text.specs.Digits.{glyph, decimal_within, decimal_digits}
 use Rattle.text.proofs.Spelling.{decimal-length}
 use Rattle.text.proofs.Laws.{length_hex}
 use Rattle.vector.specs.declared.Vec3.{Vec3}
-use Rattle.lines.specs.Lines.{settled_word, open_word, probe_word, seen_word, unseen_word, counts_line, bounces_line, probe_line, refused_line, line_of}
+use Rattle.lines.specs.Lines.{settled_word, open_word, seen_word, unseen_word, counts_line, bounces_line, worded_line, probe_line, refused_line, line_of}
+use Rattle.std.specs.Prelude.{Option, Some, None}
+use Rattle.vector.specs.Vector.{zero_vec}
 
 -- a line's text
 pub line_text : (t : List ℕ) → length t ≤ 64 → take (line_of t).count (line_of t).bytes ≡ t
@@ -62,23 +64,18 @@ unfolding bounces_line
 bounces_width bounces change settled =
     simp (length-append, length_hex) (omega (arith, decimal-length 10 bounces, either_width settled settled_word open_word 8 (omega arith) (omega arith)))
 
--- a probe's line as far as `seen` or `unseen`
-abbrev pub probe_start : ℕ → Bool → List ℕ
-probe_start number seen = probe_word ++ decimal_digits number ++ cond seen seen_word unseen_word
+-- a probe's line with a word of at most 7 bytes: at most 41 bytes and the digits of the number
+pub worded_digits : (number : ℕ) (word : List ℕ) (light : Vec3) → length word ≤ 7 → length (worded_line number word light) ≤ length (decimal_digits number) + 41
+unfolding worded_line
+worded_digits number word light h = simp (length-append, length_hex) (omega arith)
 
-pub start_width : (number : ℕ) (seen : Bool) → length (probe_start number seen) ≤ 23
-start_width number seen =
-    simp length-append (omega (arith, decimal-length 10 number, either_width seen seen_word unseen_word 7 (omega arith) (omega arith)))
-
--- all of it: at most 41 bytes and the digits of the number
-probe_digits : (number : ℕ) (seen : Bool) (light : Vec3) → length (probe_line number seen light) ≤ length (decimal_digits number) + 41
-unfolding probe_line
-probe_digits number seen light =
-    simp (length-append, length_hex) (omega (arith, either_width seen seen_word unseen_word 7 (omega arith) (omega arith)))
+probe_digits : (number : ℕ) (seen : Option Vec3) → length (probe_line number seen) ≤ length (decimal_digits number) + 41
+probe_digits number (Some light) = worded_digits number seen_word light (omega arith)
+probe_digits number None = worded_digits number unseen_word zero_vec (omega arith)
 
 -- a number of at most four digits, and any number
-pub probe_width : (number : ℕ) (seen : Bool) (light : Vec3) → number < 10000 → length (probe_line number seen light) ≤ 45
-probe_width number seen light h = omega (arith, probe_digits number seen light, decimal_short 10 number 4 (omega arith) h)
+pub probe_width : (number : ℕ) (seen : Option Vec3) → number < 10000 → length (probe_line number seen) ≤ 45
+probe_width number seen h = omega (arith, probe_digits number seen, decimal_short 10 number 4 (omega arith) h)
 
-pub probe_short : (number : ℕ) (seen : Bool) (light : Vec3) → length (probe_line number seen light) ≤ 64
-probe_short number seen light = omega (arith, probe_digits number seen light, decimal-length 10 number)
+pub probe_short : (number : ℕ) (seen : Option Vec3) → length (probe_line number seen) ≤ 64
+probe_short number seen = omega (arith, probe_digits number seen, decimal-length 10 number)

@@ -1,9 +1,10 @@
 -- The lines that `roomlight` prints, in ASCII: document 01, 'The room file and `roomlight`'. Counts are decimal, floats eight hexadecimal digits of their bits. Definitions only.
-use Rattle.std.specs.Prelude.{Bool, cond, List, [], ◌∷◌, ◌++◌, ℕ, ◌-◌, Float, length, replicate}
+use Rattle.std.specs.Prelude.{Bool, cond, List, [], ◌∷◌, ◌++◌, ℕ, ◌-◌, Float, length, replicate, Option, Some, None}
 use Rattle.std.specs.Float.{binary32}
 use Rattle.std.specs.Float.Ieee.{to_bits}
 use Rattle.text.specs.Digits.{hex_digits, decimal_digits}
 use Rattle.vector.specs.declared.Vec3.{Vec3}
+use Rattle.vector.specs.Vector.{zero_vec}
 use Rattle.lines.specs.declared.Line.{Line}
 
 -- `surfels `
@@ -72,12 +73,12 @@ unfoldable pub bounces_line : ℕ → Float → Bool → List ℕ
 bounces_line bounces change settled =
     bounces_word ++ decimal_digits bounces ++ residual_word ++ float_digits change ++ cond settled settled_word open_word ++ newline
 
--- `probe 0 seen 3F2AA800 3F2AA800 3F2AA800`, or `unseen`: the number, and the reading's x, y, z
-unfoldable pub probe_line : ℕ → Bool → Vec3 → List ℕ
-probe_line number seen light =
+-- `probe 0 seen 3F2AA800 3F2AA800 3F2AA800`: the number, a word, and the light's x, y, z
+unfoldable pub worded_line : ℕ → List ℕ → Vec3 → List ℕ
+worded_line number word light =
     probe_word
     ++ decimal_digits number
-    ++ cond seen seen_word unseen_word
+    ++ word
     ++ space
     ++ float_digits light.x
     ++ space
@@ -85,6 +86,11 @@ probe_line number seen light =
     ++ space
     ++ float_digits light.z
     ++ newline
+
+-- a probe that sees the light, and one that is unseen, which has zeros for it
+abbrev pub probe_line : ℕ → Option Vec3 → List ℕ
+probe_line number (Some light) = worded_line number seen_word light
+probe_line number None = worded_line number unseen_word zero_vec
 
 -- `refused 5`
 unfoldable pub refused_line : ℕ → List ℕ

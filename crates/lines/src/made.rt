@@ -1,6 +1,6 @@
 // The four lines of a report.
-ghost use Rattle.std.specs.Prelude.{◌≡◌};
-ghost use Rattle.lines.specs.Lines.{counts_line, bounces_line, probe_line, refused_line, line_of};
+ghost use Rattle.std.specs.Prelude.{◌≡◌, ◌≤◌, length};
+ghost use Rattle.lines.specs.Lines.{counts_line, bounces_line, worded_line, probe_line, refused_line, line_of};
 
 use crate::Line;
 use vector::Vec3;
@@ -32,17 +32,26 @@ pub fn bounces(bounces: u32, change: f32, settled: bool) -> Line
     }
 }
 
-// The reading at a probe: its number, whether light is seen there, and the light.
-pub fn probe(number: u32, seen: bool, light: Vec3) -> Line
-    ensures { result ≡ line_of (probe_line number seen light) }
+// The reading at a probe: its number, and the light where it is seen; zeros stand where it is not.
+pub fn probe(number: u32, seen: Option<Vec3>) -> Line
+    ensures { result ≡ line_of (probe_line number seen) }
 {
-    let start = Line::empty().with(b"probe ").with_decimal(number);
-    let line = if seen {
-        start.with(b" seen")
-    } else {
-        start.with(b" unseen")
-    };
-    line.with(b" ")
+    match seen {
+        Some(light) => worded(number, b" seen", light),
+        None => worded(number, b" unseen", Vec3::zero()),
+    }
+}
+
+// A probe's number, a word, and a light.
+fn worded(number: u32, word: &[u8], light: Vec3) -> Line
+    requires { length word.now ≤ 7 }
+    ensures { result ≡ line_of (worded_line number word.now light) }
+{
+    Line::empty()
+        .with(b"probe ")
+        .with_decimal(number)
+        .with(word)
+        .with(b" ")
         .with_float(light.x)
         .with(b" ")
         .with_float(light.y)

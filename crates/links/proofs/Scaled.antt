@@ -1,16 +1,16 @@
 -- The weights of a row, one more at a time: summed and scaled. Assumes nothing.
-use mathlib.Core.List.{List, [], ◌∷◌, ◌++◌, map-append}
-use mathlib.Core.Path.{◌≡◌, refl, ◌∙◌}
-use Prim.Native.Nat.{ℕ, ◌+◌, ◌<◌}
+use mathlib.Core.List.{List, [], ◌∷◌, ◌++◌}
+use mathlib.Core.Path.{◌≡◌, refl, sym, ap, ◌∙◌}
+use Prim.Native.Nat.{ℕ, min}
 use native.Mathlib.Numerals.{add-one}
 use native.Mathlib.Omega.{arith}
 use lib.Ieee.{Float, binary32, nan, of_bits, lt}
-use lib.ListN.{length, get_or, set, take, length-append, length-map, get_or-append}
-use lib.Seq.{sets, get_or-append_seam, length-take-le, take-suc}
+use lib.ListN.{length, take, drop, length-take, length-append, length-map, get_or-append}
+use lib.Seq.{sets, get_or-append_seam}
 use Rattle.float.specs.Arithmetic.{◌+f◌, ◌*f◌, 0f}
 use Rattle.float.specs.Column.{float_at}
 use Rattle.vector.specs.Fold.{fold}
-use Rattle.vector.proofs.Stored.{sets_front_append, past_sets}
+use Rattle.vector.proofs.Stored.{sets_front, take_reached}
 use Rattle.vector.proofs.Sums.{fold_same}
 use Rattle.field.proofs.Chosen.{chosen}
 use Rattle.links.specs.Scaling.{row_sum, scale_to, scaled_by, calibrated}
@@ -26,22 +26,17 @@ row_sum_more ws w =
       fold_same (λ (a b : Float). a +f b) 0f (float_at (ws ++ (w ∷ []))) (float_at ws) (length ws) (λ j h. get_or-append ws (w ∷ []) nan j h),
     )
 
--- weights scaled, one more at a time
-pub scaled_none : (k : Float) (w : List Float) → w ≡ sets w 0 (scaled_by k (take 0 w))
-unfolding scaled_by
-scaled_none k w = refl
-
+-- a weight for each weight
 pub length_scaled : (k : Float) (xs : List Float) → length (scaled_by k xs) ≡ length xs
 unfolding scaled_by
 length_scaled k xs = length-map xs (λ (w : Float). w *f k)
 
-pub scaled_more : (k : Float) (w : List Float) (j : ℕ) {d e : List Float} {x : Float} → j < length w
-    → d ≡ sets w 0 (scaled_by k (take j w)) → x ≡ get_or d j nan *f k → e ≡ set d j x → e ≡ sets w 0 (scaled_by k (take (j + 1) w))
-unfolding scaled_by
-scaled_more k w j {d} h p q r =
-    let n : length (scaled_by k (take j w)) ≡ j = length_scaled k (take j w) ∙ length-take-le j w (omega arith) in
-    let old : get_or d j nan ≡ get_or w j nan = rw p (past_sets w 0 (scaled_by k (take j w)) j nan (omega (arith, n))) in
-    r ∙ rw (q, old, p, add-one j, take-suc w j nan h, map-append (λ (v : Float). v *f k) (take j w), sets_front_append w (scaled_by k (take j w)), n)
+-- the first k weights scaled, as far as there are so many, and the others as they were
+pub scaled_front : (scale : Float) (w : List Float) (k : ℕ)
+    → scaled_by scale (take (min k (length w)) w) ++ drop (min k (length w)) w ≡ sets w 0 (scaled_by scale (take k w))
+scaled_front scale w k =
+    let n : length (scaled_by scale (take k w)) ≡ min k (length w) = length_scaled scale (take k w) ∙ length-take k w in
+    rw take_reached (sym (sets_front w (scaled_by scale (take k w)) (omega (arith, n)) ∙ ap (λ (i : ℕ). scaled_by scale (take k w) ++ drop i w) n))
 
 pub length_calibrated : (target sum : Float) (ws : List Float) → length (calibrated target sum ws) ≡ length ws
 unfolding calibrated

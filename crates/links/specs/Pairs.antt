@@ -1,9 +1,9 @@
 -- A surfel and a cluster: document 01, 'The rows' (skip r² < 1e-9, cosines ≤ 1e-3, factor < 2e-5, visibility ≤ 1e-3), in the order of the Rust's float steps. The surfel receives, the
 -- cluster emits. Definitions only.
-use Rattle.std.specs.Prelude.{Bool, true, false, cond, ℕ, Float}
+use Rattle.std.specs.Prelude.{Bool, true, false, cond, Float, Some, None}
 use Rattle.std.specs.Float.{binary32}
 use Rattle.std.specs.Float.Ieee.{of_bits, lt, le}
-use Rattle.float.specs.Arithmetic.{◌+f◌, ◌-f◌, ◌*f◌, ◌/f◌, 0f}
+use Rattle.float.specs.Arithmetic.{◌+f◌, ◌-f◌, ◌*f◌, ◌/f◌}
 use Rattle.float.specs.Order.{greater, clamp}
 use Rattle.float.specs.Root.{square_root}
 use Rattle.vector.specs.declared.Vec3.{Vec3}
@@ -58,13 +58,9 @@ seen s diag a c =
     soft_shadow s (plus a.p (scaled a.n (diag *f of_bits binary32 0x3a03_126f))) (direction a c) (diag *f of_bits binary32 0x3a83_126f)
     (distance a c -f c.radius *f of_bits binary32 0x3f40_0000) (tightness (distance a c) c.radius)
 
--- no link, after so many evaluations
-abbrev pub unlinked : ℕ → Pair
-unlinked evals = record { linked = false; weight = 0f; evals = evals }
-
 -- a pair that faces each other is linked where its visibility exceeds 0.001, by the factor × the visibility
 unfoldable pub linked_by : Float → Shadow → Pair
-linked_by f v = cond (le v.visibility least) (unlinked v.evals) (record { linked = true; weight = f *f v.visibility; evals = v.evals })
+linked_by f v = record { weight = cond (le v.visibility least) None (Some (f *f v.visibility)); evals = v.evals }
 
 unfoldable pub pair_of : Scene → Float → Receiver → Cluster → Pair
-pair_of s diag a c = cond (faces a c) (linked_by (factor a c) (seen s diag a c)) (unlinked 0)
+pair_of s diag a c = cond (faces a c) (linked_by (factor a c) (seen s diag a c)) (record { weight = None; evals = 0 })

@@ -18,21 +18,19 @@ pub struct Receiver {
     pub n: Vec3,
 }
 
-// Whether a surfel and a cluster face each other closely enough; if so how far and in which direction
-// the cluster is, and their form factor.
+// How a surfel and a cluster face each other: how far and in which direction the cluster is, and
+// their form factor.
 #[derive(Clone, Copy)]
 pub struct Facing {
-    pub faces: bool,
     pub r: f32,
     pub dir: Vec3,
     pub factor: f32,
 }
 
-// Whether a surfel and a cluster are linked, the link's weight, and how many distances were
-// evaluated.
+// The weight of the link of a surfel to a cluster, none where they are not linked, and how many
+// distances were evaluated.
 #[derive(Clone, Copy)]
 pub struct Pair {
-    pub linked: bool,
-    pub weight: f32,
+    pub weight: Option<f32>,
     pub evals: u32,
 }

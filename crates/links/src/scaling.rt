@@ -3,9 +3,8 @@ ghost use Rattle.std.specs.Prelude.{◌≡◌, take};
 ghost use Rattle.std.proofs.lemmas.List.Edits.{sets};
 ghost use Rattle.links.specs.Scaling.{target_of, scaled_by, calibrated, calibrated_sum};
 
-use accept::lesser;
-
 // What a row's sum should be, where this part of the hemisphere is open.
+#[tactic(auto, unfolding(crate::specs::Scaling::target_of))]
 pub fn target_of(sky: f32) -> f32
     ensures { result ≡ target_of sky }
 {
@@ -20,21 +19,20 @@ pub fn calibrate(weight: &mut [f32], k: usize, target: f32, sum: f32) -> f32
 {
     if sum > 1e-5 {
         let scale = float::min(target / sum, 8.0);
-        rescale(weight, k, scale);
+        let end = k.min(weight.len());
+        rescale(&mut weight[..end], scale);
         sum * scale
     } else {
         sum
     }
 }
 
-// Each of the first k weights, as far as the slice reaches, times the scale.
-fn rescale(weight: &mut [f32], k: usize, scale: f32)
-    ensures { weight.new ≡ sets weight.old 0 (scaled_by scale (take k weight.old)) }
+// Each weight of a row times the scale.
+#[tactic(auto, unfolding(crate::specs::Scaling::scaled_by))]
+fn rescale(row: &mut [f32], scale: f32)
+    ensures { row.new ≡ scaled_by scale row.old }
 {
-    let end = lesser(k, weight.len());
-    let mut j = 0;
-    while j < end {
-        weight[j] = weight[j] * scale;
-        j += 1;
+    for w in row.iter_mut() {
+        *w *= scale;
     }
 }

@@ -1,7 +1,6 @@
 -- The definitions that the contracts of `outs` cite.
 pub mod Outs
 pub mod Scenes
-pub mod Placing
 pub mod Surfels
 pub mod Rows
 pub mod Solves

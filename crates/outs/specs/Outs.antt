@@ -1,6 +1,8 @@
 -- The C interface: document 01, 'Refused calls'. A vector is three floats, and the numbers of an answer are written through references; what those hold, as a function is called
 -- and as it returns, is read here as the struct that the answer has. Definitions only.
-use Rattle.std.specs.Prelude.{ℕ, Float}
+use Rattle.std.specs.Prelude.{ℕ, Float, Result, Ok, Err}
+use Rattle.accept.specs.Refusal.{number_of}
+use Rattle.accept.specs.declared.refusal.Refusal.{Refusal}
 use Rattle.vector.specs.declared.Vec3.{Vec3}
 use Rattle.vector.specs.Flat.{Moments, Out}
 use Rattle.vector.specs.Vector.{vec}
@@ -12,6 +14,11 @@ use Rattle.scene.specs.declared.Shadow.{Shadow}
 use Rattle.solve.specs.declared.SolveStats.{SolveStats}
 use Rattle.clusters.specs.declared.Clustered.{Clustered}
 use Rattle.formfactor.specs.declared.Built.{Built}
+
+-- what an answer leaves where the outs are those of its struct, from what they held: a refusal its number, else 0 and the answer
+abbrev pub left : {A : Type 0} → Result A Refusal → A → ℕ × A
+left (Ok a) held = (0, a)
+left (Err refusal) held = (number_of refusal, held)
 
 -- what the outs of a ray hold: hit is 1 or 0, at is where the scene was met, evals how many distances were evaluated
 pub record TraceOut : Type 0 where

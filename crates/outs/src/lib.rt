@@ -2,6 +2,7 @@
 // with the answer's own numbers written through references.
 //
 // No function here asks anything of its caller.
+// Kept: an answer's numbers are written through a reference each, since C lends them so.
 #![tactic(auto)]
 
 mod placing;
@@ -18,4 +19,4 @@ pub use reporting::tell_length;
 pub use rows::{tell_built, tell_clustered};
 pub use scenes::{tell_closure, tell_nearest, tell_normal, tell_shadow, tell_traced};
 pub use solves::tell_solved;
-pub use surfels::{readings_number, tell_dims, tell_listed, tell_reading};
+pub use surfels::{tell_dims, tell_listed, tell_reading};

@@ -2,16 +2,20 @@
 ghost use Rattle.std.specs.Prelude.{◌≡◌};
 ghost use Rattle.outs.specs.Reading.{read_left};
 
-use room::ReadAnswer;
+use accept::Refusal;
+use room::Head;
 
 // The number that a file was refused with, or 0 with its counts and the limit, and with lo, hi, the
 // side of a cell and the radius, written through references.
-pub fn tell_head(answer: ReadAnswer, counts: &mut [usize; 6], sizes: &mut [f32; 8]) -> u32
+pub fn tell_head(
+    answer: Result<Head, Refusal>,
+    counts: &mut [usize; 6],
+    sizes: &mut [f32; 8],
+) -> u32
     ensures { (result, counts.new, sizes.new) ≡ read_left answer counts.old sizes.old }
 {
     match answer {
-        ReadAnswer::Refused(number) => number,
-        ReadAnswer::Done(head) => {
+        Ok(head) => {
             *counts = [
                 head.counts.surfels as usize,
                 head.counts.clusters as usize,
@@ -32,5 +36,6 @@ pub fn tell_head(answer: ReadAnswer, counts: &mut [usize; 6], sizes: &mut [f32; 
             ];
             0
         }
+        Err(refusal) => u32::from(refusal),
     }
 }

@@ -2,17 +2,17 @@
 ghost use Rattle.std.specs.Prelude.{◌≡◌};
 ghost use Rattle.outs.specs.Reporting.{report_left};
 
-use report::ReportAnswer;
+use accept::Refusal;
 
 // The number that a report was refused with, or 0 with how long it is written through a reference.
-pub fn tell_length(answer: ReportAnswer, length: &mut usize) -> u32
+pub fn tell_length(answer: Result<usize, Refusal>, length: &mut usize) -> u32
     ensures { (result, length.new) ≡ report_left answer length.old }
 {
     match answer {
-        ReportAnswer::Refused(number) => number,
-        ReportAnswer::Done(end) => {
+        Ok(end) => {
             *length = end;
             0
         }
+        Err(refusal) => u32::from(refusal),
     }
 }

@@ -1,69 +1,42 @@
 -- What refuses a call, from its tests, what a call that is not refused was lent, and what it answers. Assumes nothing.
-use mathlib.Core.Bool.{Bool, true, false, ◌&&◌, and-eq-true_iff}
+use mathlib.Core.Bool.{Bool, cond}
 use mathlib.Core.List.{List, [], ◌∷◌}
 use mathlib.Core.Path.{◌≡◌, sym, ap, ◌∙◌}
 use Prim.Native.Nat.{ℕ, ◌≤◌}
-use borrow.Author.Tests.{leb-true, ne_eqb}
+use borrow.Author.Tests.{leb-true}
 use lib.Dec.{leb}
 use lib.Ieee.{Float}
 use lib.ListN.{length}
-use Rattle.float.specs.Arithmetic.{0f}
+use Rattle.std.specs.Prelude.{Result, Ok, Err}
 use Rattle.vector.specs.declared.Vec3.{Vec3}
 use Rattle.vector.specs.Flat.{vec_at, written}
-use Rattle.vector.specs.Halton.{of_whole}
 use Rattle.vector.proofs.Replaced.{length_written}
-use Rattle.accept.specs.Limits.{max_surfels, max_entries, max_albedo}
-use Rattle.accept.specs.Ranges.{bounds, floats_within}
-use Rattle.accept.specs.Refusal.{unless, first_failed}
+use Rattle.accept.specs.Limits.{max_surfels, max_entries}
+use Rattle.accept.specs.declared.refusal.Refusal.{Refusal}
+use Rattle.accept.specs.Refusal.{checked}
 use Rattle.accept.specs.Tables.{at_most, holds}
 use Rattle.accept.proofs.Bounded.{at_most-le, three_each}
 use Rattle.accept.proofs.Every.{conj_each}
-use Rattle.accept.proofs.Refused.{none_failed}
+use Rattle.accept.proofs.Refused.{none_refused}
 use Rattle.grid.specs.Cells.{cells}
-use Rattle.tables.specs.Checks.{counts_within, tables_hold, shapes_within, parts_fit}
+use Rattle.tables.specs.Checks.{counts_within, tables_hold}
 use Rattle.seeds.specs.declared.Spacing.{Spacing}
-use Rattle.seeds.specs.Seeds.{spacing_of}
 use Rattle.seeds.specs.Surfels.{surfel_at}
-use Rattle.placement.specs.declared.GenerateAnswer.TheVariants.{Refused, Done}
 use Rattle.placement.specs.Answers.{surfel_of, generate_answer, head_open, next_open}
 use Rattle.placement.specs.Chains.{points_left}
-use Rattle.placement.specs.Checks.{spacing_for, head_need, few_enough, lengths_hold, columns_hold, later_tests, refusal_by, refusal}
+use Rattle.placement.specs.Checks.{spacing_for, head_need, few_enough, columns_hold, check}
 use Rattle.placement.specs.Kept.{dims_in, point_at, placed, columns_by}
 use Rattle.placement.specs.Lent.{Request, Columns, columns_of}
 use Rattle.placement.specs.Needs.{Held, Roomy}
 use Rattle.placement.proofs.Columned.{roomy_fewer, columns_put_points}
 use Rattle.placement.proofs.Spread.{placed_few}
 
--- the number from 3 on, from what each test answered
-pub later_by : (o : Request) (columns : Bool) (head next : ℕ) {s : Spacing} {need : ℕ} {bounded tables lent shapes floats parts : Bool}
-    → s ≡ spacing_of o.lo o.hi (of_whole o.target) → need ≡ cells (dims_in s)
-    → bounded ≡ bounds o.lo o.hi
-    → tables ≡ tables_hold o.scene → lent ≡ holds (length o.materials) o.mats 4
-    → shapes ≡ shapes_within o.scene → floats ≡ floats_within o.materials o.mats 4 0f max_albedo
-    → parts ≡ parts_fit o.scene
-    → unless bounded 3 (unless ((((tables && lent) && columns) && leb need head) && leb o.target next) 4 (unless (shapes && floats) 5 (unless parts 6 0)))
-    ≡ first_failed (later_tests o columns head next)
-unfolding first_failed head_need spacing_for
-later_by o columns head next a b c d e f g h = rw (b, a, c, d, e, f, g, h)
-
--- the three tests of 2
-module _ (o : Request) {target entries mats : Bool} (a : target ≡ at_most o.target max_surfels)
-    (b : entries ≡ counts_within o.scene.prims o.scene.planes o.scene.objects) (c : mats ≡ at_most o.mats max_entries) where
-  -- where they passed, the target is within its limit
-  pub target_few : ((target && entries) && mats) ≡ true → o.target ≤ max_surfels
-  target_few t =
-      at_most-le o.target max_surfels (sym a ∙ ((and-eq-true_iff target entries).0 ((and-eq-true_iff (target && entries) mats).0 t).0).0)
-
-  -- and the number is that of the later tests
-  pub number_few : (columns : Bool) (head next : ℕ) {number : ℕ} → ((target && entries) && mats) ≡ true
-      → number ≡ first_failed (later_tests o columns head next) → number ≡ refusal_by o columns head next
-  unfolding first_failed few_enough
-  number_few columns head next t e = e ∙ rw (← a, ← b, ← c, t)
-
-  -- where one failed, it is 2
-  pub number_many : (columns : Bool) (head next : ℕ) → ((target && entries) && mats) ≡ false → 2 ≡ refusal_by o columns head next
-  unfolding first_failed few_enough
-  number_many columns head next t = rw (← a, ← b, ← c, t)
+-- where the counts passed their test, the target is within its limit
+pub target_few : (o : Request) (r : Refusal) {few : Bool} → few ≡ few_enough o → ◌≡◌ {A = Result Unit Refusal} (Ok tt) (cond few (Ok tt) (Err r)) → o.target ≤ max_surfels
+unfolding few_enough checked
+target_few o r {few} a e =
+    let h = none_refused ((r, few) ∷ []) (sym e) in
+    at_most-le _ _ (conj_each (at_most o.target max_surfels ∷ counts_within o.scene ∷ at_most o.mats max_entries ∷ []) (sym a ∙ h.0)).0
 
 module _ (o : Request) (l : Columns) (head next : ℕ) where
   -- what the functions beneath ask
@@ -74,13 +47,13 @@ module _ (o : Request) (l : Columns) (head next : ℕ) where
     pub linked : o.target ≤ next
 
   -- a call that is not refused was lent it
-  pub accepted : refusal o l head next ≡ 0 → Accepted
-  unfolding refusal few_enough columns_hold head_need
+  pub accepted : check o l head next ≡ Ok tt → Accepted
+  unfolding check few_enough columns_hold head_need
   accepted e =
       let n = o.target in
       let s = o.scene in
-      let h = none_failed _ tt e in
-      let a = conj_each (at_most n max_surfels ∷ counts_within s.prims s.planes s.objects ∷ at_most o.mats max_entries ∷ []) h.0 in
+      let h = none_refused _ e in
+      let a = conj_each (at_most n max_surfels ∷ counts_within s ∷ at_most o.mats max_entries ∷ []) h.0 in
       let b =
       conj_each
       (tables_hold s ∷ holds (length o.materials) o.mats 4 ∷ columns_hold n l ∷ leb (head_need o) head ∷ leb n next ∷ [])
@@ -115,52 +88,36 @@ module _ (o : Request) (l : Columns) (head next : ℕ) where
         linked = leb-true _ _ b.1.1.1.1.0;
       }
 
-  -- the number as the code finds it
-  pub number_is : {columns : Bool} {number : ℕ}
-      → columns ≡ lengths_hold o.target (length l.p) (length l.n) (length l.albedo) (length l.area) (length l.direct) (length l.irr) (length l.rad)
-      → number ≡ refusal_by o columns head next → number ≡ refusal o l head next
-  unfolding refusal columns_hold
-  number_is p q = q ∙ rw p
-
   -- refused, the columns are as they were
-  pub answer_refused : {number : ℕ} → number ≡ refusal o l head next → (number ≡ 0 → ⊥) → (Refused number, l) ≡ generate_answer o l head next
+  pub answer_refused : {r : Refusal} → check o l head next ≡ Err r → ◌≡◌ {A = Result ℕ Refusal × Columns} (Err r, l) (generate_answer o l head next)
   unfolding generate_answer
-  answer_refused {number} e h = rw (← e, ne_eqb number 0 h)
+  answer_refused e = rw e
 
   -- the points that are kept
   abbrev points : List Vec3
   points = placed o.scene (spacing_for o) o.target
 
   -- done, they have a surfel at each of them
-  pub answer_done : {number c : ℕ} {k : Columns} → number ≡ refusal o l head next → number ≡ 0
+  pub answer_done : {c : ℕ} {k : Columns} → check o l head next ≡ Ok tt
       → c ≡ length points → k ≡ columns_by (λ i. surfel_of o (point_at points i)) (length points) l
-      → (Done c, k) ≡ generate_answer o l head next
+      → ◌≡◌ {A = Result ℕ Refusal × Columns} (Ok c, k) (generate_answer o l head next)
   unfolding generate_answer
-  answer_done e z a b = rw (← e, z, a, b)
+  answer_done e a b = rw (e, a, b)
 
   -- of the scratch, what is needed is left open for a call that is done
-  pub head_open_done : {number : ℕ} → number ≡ refusal o l head next → number ≡ 0 → head_open o l head next ≡ head_need o
-  unfolding head_open
-  head_open_done e z = rw (← e, z)
-
-  pub next_open_done : {number : ℕ} → number ≡ refusal o l head next → number ≡ 0 → next_open o l head next ≡ o.target
-  unfolding next_open
-  next_open_done e z = rw (← e, z)
+  pub open_done : check o l head next ≡ Ok tt → (head_open o l head next ≡ head_need o) × (next_open o l head next ≡ o.target)
+  unfolding head_open next_open
+  open_done e = (rw e, rw e)
 
 -- from one function beneath to the next, with the spacing that the code finds
-module _ (o : Request) (l : Columns) {s : Spacing} (w : s ≡ spacing_of o.lo o.hi (of_whole o.target)) where
-  -- it is that of the request
-  spacing_is : s ≡ spacing_for o
-  unfolding spacing_for
-  spacing_is = w
-
+module _ (o : Request) (l : Columns) {s : Spacing} (spacing_is : s ≡ spacing_for o) where
   -- what is needed of head
   pub need_is : cells (dims_in s) ≡ head_need o
   unfolding head_need
   need_is = rw spacing_is
 
   -- what `place` asks of a call that is not refused
-  pub held : (head next : List ℕ) → refusal o l (length head) (length next) ≡ 0 → Held s o.target l.p head next
+  pub held : (head next : List ℕ) → check o l (length head) (length next) ≡ Ok tt → Held s o.target l.p head next
   held head next e =
       let a = accepted o l (length head) (length next) e in
       record { few = a.few; points = a.roomy.points; celled = rw spacing_is a.celled; linked = a.linked }
@@ -196,9 +153,9 @@ module _ (o : Request) (l : Columns) {s : Spacing} (w : s ≡ spacing_of o.lo o.
         })
 
     -- the answer, from the columns that `store` left
-    pub answer_stored : (head next : ℕ) {number : ℕ} {k : Columns} → number ≡ refusal o l head next → number ≡ 0
+    pub answer_stored : (head next : ℕ) {k : Columns} → check o l head next ≡ Ok tt
         → k ≡ columns_by (λ i. surfel_at o.scene o.mats o.materials s (vec_at q i)) c (columns_of q l.n l.albedo l.area l.direct l.irr l.rad)
-        → (Done c, k) ≡ generate_answer o l head next
-    answer_stored head next n z d =
-        answer_done o l head next n z (count_is ∙ rw spacing_is)
+        → ◌≡◌ {A = Result ℕ Refusal × Columns} (Ok c, k) (generate_answer o l head next)
+    answer_stored head next e d =
+        answer_done o l head next e (count_is ∙ rw spacing_is)
         (d ∙ rw (count_is, points_are, spacing_is) (columns_put_points o.scene o.mats o.materials (spacing_for o) (placed o.scene (spacing_for o) o.target) l))

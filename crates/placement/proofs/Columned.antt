@@ -7,7 +7,7 @@ use lib.Ieee.{Float}
 use lib.ListN.{length, set}
 use Rattle.vector.specs.declared.Vec3.{Vec3}
 use Rattle.vector.specs.Flat.{vec_at, put_at, components, written}
-use Rattle.vector.proofs.Replaced.{length_written, length_filled, written_none, written_put, written_there, written_same, at_written, filled_none, filled_put, replaced_same, replaced_again}
+use Rattle.vector.proofs.Replaced.{written_none, written_put, written_there, written_same, at_written, filled_none, filled_put, replaced_same, replaced_again}
 use Rattle.tables.specs.Tables.{Scene}
 use Rattle.seeds.specs.declared.Spacing.{Spacing}
 use Rattle.seeds.specs.declared.Surfel.{Surfel}
@@ -35,38 +35,12 @@ roomy_fewer m n l h r =
       rads = omega (arith, h, r.rads);
     }
 
--- each column has the length that it had
-pub record SameLengths (k l : Columns) : Type 0 where
-  pub points : length k.p ≡ length l.p
-  pub normals : length k.n ≡ length l.n
-  pub albedos : length k.albedo ≡ length l.albedo
-  pub areas : length k.area ≡ length l.area
-  pub directs : length k.direct ≡ length l.direct
-  pub irrs : length k.irr ≡ length l.irr
-  pub rads : length k.rad ≡ length l.rad
-
 module _ (at : ℕ → Surfel) where
   -- no surfel
   pub columns_none : (l : Columns) → l ≡ columns_by at 0 l
   unfolding columns_by
   columns_none l =
       columns_eq (written_none _ l.p) (written_none _ l.n) (written_none _ l.albedo) (filled_none _ l.area) (written_none _ l.direct) (written_none _ l.irr) (written_none _ l.rad)
-
-  -- columns with room for the surfels, or for more, keep their lengths
-  pub columns_lengths : (n count : ℕ) (l : Columns) {k : Columns} → n ≤ count → Roomy count l → k ≡ columns_by at n l → SameLengths k l
-  unfolding columns_by
-  columns_lengths n count l h w e =
-      let r = roomy_fewer n count l h w in
-      rw e
-      (record {
-        points = length_written _ n l.p r.points;
-        normals = length_written _ n l.n r.normals;
-        albedos = length_written _ n l.albedo r.albedos;
-        areas = length_filled _ n l.area r.areas;
-        directs = length_written _ n l.direct r.directs;
-        irrs = length_written _ n l.irr r.irrs;
-        rads = length_written _ n l.rad r.rads;
-      })
 
   -- k has n surfels, v is the next, whose point stands in its place, and m is k with the rest of v stored
   pub columns_more : (n count : ℕ) (l : Columns) {k m : Columns} {v : Surfel} → ((i : ℕ) → vec_at l.p i ≡ (at i).p) → n < count → Roomy count l

@@ -145,9 +145,6 @@ module _ (s : Spacing) (p : Vec3) where
     abbrev pub Row : ℕ → ℕ → ℕ → Type 0
     Row z y x = (i : ℕ) → i < x → Vacant (cell_at i y z)
 
-    pub row_more : (x y z : ℕ) → Row z y x → Vacant (cell_at x y z) → Row z y (x + 1)
-    row_more x y z h e i l = elim (eq-or-lt_of_le {n = i} {m = x} (omega arith)) [ inl q ↦ rw q e | inr k ↦ h i k ]
-
     pub rows_more : (y z : ℕ) {x : ℕ} → Rows z y → Row z y x → b.wide ≤ x → Rows z (y + 1)
     rows_more y z h r w i j k l = elim (eq-or-lt_of_le {n = j} {m = y} (omega arith)) [ inl q ↦ rw q (r i (omega arith)) | inr m ↦ h i j k m ]
 

@@ -17,8 +17,7 @@ use Rattle.vector.proofs.Stored.{past_later}
 use Rattle.accept.proofs.Every.{every_same}
 use Rattle.grid.specs.Cells.{cells}
 use Rattle.tables.specs.Tables.{Scene}
-use Rattle.field.specs.declared.Projected.{Projected}
-use Rattle.field.specs.declared.Projected.TheVariants.{On, None}
+use Rattle.std.specs.Prelude.{Option, Some, None}
 use Rattle.seeds.specs.declared.Spacing.{Spacing}
 use Rattle.seeds.specs.Seeds.{landed}
 use Rattle.placement.specs.Kept.{dims_in, too_close, free, point_at, kept_with, kept, placed, seed_count}
@@ -28,7 +27,7 @@ use Rattle.placement.proofs.Chained.{chained_none}
 use Rattle.placement.proofs.Points.{length_more, point_before, point_last}
 
 -- scratch whose cells were emptied
-module _ (s : Spacing) (target m : ℕ) {p : List Float} {head next : List ℕ} (w : Held s target p head next) (l : List ℕ) (k : m ≡ cells (dims_in s))
+module _ {s : Spacing} {target m : ℕ} {p : List Float} {head next l : List ℕ} (w : Held s target p head next) (k : m ≡ cells (dims_in s))
     (e : l ≡ filled (λ c. 0) (min m (length head)) head) where
   pub emptied : l ≡ filled (λ c. 0) (cells (dims_in s)) head
   emptied =
@@ -79,13 +78,13 @@ module _ (s : Spacing) (target : ℕ) (ps : List Vec3) (p₀ : List Float) {coun
       free_same s (vec_at p) (point_at ps) count v (λ j h. ap (λ (l : List Float). vec_at l j) f ∙ at_written (point_at ps) count j p₀ h)
       ∙ ap (λ (n : ℕ). free s (point_at ps) n v) e
 
-  pub stepped : (q : Projected) → Stepped (kept_with s target ps q) (tried s count p q).0 (tried s count p q).1
+  pub stepped : (q : Option Vec3) → Stepped (kept_with s target ps q) (tried s count p q).0 (tried s count p q).1
   unfolding kept_with tried
   stepped None = same
-  stepped (On v) = by_test (free s (vec_at p) count v) refl
+  stepped (Some v) = by_test (free s (vec_at p) count v) refl
     where
       by_test : (t : Bool) → free s (vec_at p) count v ≡ t
-          → Stepped (kept_with s target ps (On v)) (tried s count p (On v)).0 (tried s count p (On v)).1
+          → Stepped (kept_with s target ps (Some v)) (tried s count p (Some v)).0 (tried s count p (Some v)).1
       by_test true g = rw (g, sym (room_as v) ∙ g, lt-ltb (length ps) target (omega arith)) (more v)
       by_test false g = rw (g, sym (room_as v) ∙ g, lt-ltb (length ps) target (omega arith)) same
 
@@ -94,10 +93,10 @@ module _ (scene : Scene) (s : Spacing) (target : ℕ) where
   keep m = kept scene s target m
 
   -- where so many are kept as are asked for, no seed more is
-  full_with : (ps : List Vec3) (q : Projected) → target ≤ length ps → kept_with s target ps q ≡ ps
+  full_with : (ps : List Vec3) (q : Option Vec3) → target ≤ length ps → kept_with s target ps q ≡ ps
   unfolding kept_with
   full_with ps None h = refl
-  full_with ps (On p) h = rw (le-ltb (length ps) target h)
+  full_with ps (Some p) h = rw (le-ltb (length ps) target h)
 
   full_on : (m k : ℕ) → target ≤ length (keep m) → keep (m + k) ≡ keep m
   unfolding kept
@@ -116,9 +115,6 @@ module _ (scene : Scene) (s : Spacing) (target : ℕ) where
     pub counted : count ≡ length (keep i)
     pub few : count ≤ target
     pub stored : p ≡ written (point_at (keep i)) count p₀
-    pub long : length p ≡ length p₀
-    pub celled : length head ≡ length head₀
-    pub linked : length next ≡ length next₀
     pub chains : Chains s count p head next
     pub head_past : drop (cells (dims_in s)) head ≡ drop (cells (dims_in s)) head₀
     pub next_past : drop target next ≡ drop target next₀
@@ -132,9 +128,6 @@ module _ (scene : Scene) (s : Spacing) (target : ℕ) where
           counted = refl;
           few = omega arith;
           stored = written_none (point_at []) p₀;
-          long = refl;
-          celled = refl;
-          linked = refl;
           chains =
               record {
                 points = omega arith;
@@ -149,11 +142,11 @@ module _ (scene : Scene) (s : Spacing) (target : ℕ) where
     module _ {i count : ℕ} {p : List Float} {head next : List ℕ} (h : SoFar p₀ head₀ next₀ i count p head next) where
       -- the next seed tried, while fewer are kept than are asked for
       pub one_more : {r : ℕ} {q : List Float} {head' next' : List ℕ} → count < target
-          → (r, q) ≡ tried s count p (landed scene s (i + 1)) → Chains s r q head' next' → length q ≡ length p → length head' ≡ length head → length next' ≡ length next
+          → (r, q) ≡ tried s count p (landed scene s (i + 1)) → Chains s r q head' next'
           → drop (cells (dims_in s)) head' ≡ drop (cells (dims_in s)) head → drop (count + 1) next' ≡ drop (count + 1) next
           → SoFar p₀ head₀ next₀ (i + 1) r q head' next'
       unfolding kept
-      one_more {r} {q} {head'} {next'} l e c lp lh ln hp np =
+      one_more {r} {q} {head'} {next'} l e c hp np =
           let t = stepped s target (keep i) p₀ h.counted l w.points h.stored (landed scene s (suc i)) in
           let n : i + 1 ≡ suc i = add-one i in
           let f : (r, q) ≡ tried s count p (landed scene s (suc i)) = rw n at e in
@@ -164,9 +157,6 @@ module _ (scene : Scene) (s : Spacing) (target : ℕ) where
             counted = t₀ ∙ t.counted;
             few = omega (arith, t₀, t.few_still);
             stored = t₁ ∙ t.stored ∙ ap (λ (k : ℕ). written (point_at (keep (suc i))) k p₀) (sym t₀);
-            long = lp ∙ h.long;
-            celled = lh ∙ h.celled;
-            linked = ln ∙ h.linked;
             chains = c;
             head_past = hp ∙ h.head_past;
             next_past = past_later (count + 1) target next' next (omega arith) np ∙ h.next_past;

@@ -15,8 +15,7 @@ use Rattle.float.specs.Sign.{abs}
 use Rattle.vector.specs.declared.Vec3.{Vec3}
 use Rattle.accept.proofs.Every.{every_at}
 use Rattle.tables.specs.Tables.{Scene}
-use Rattle.field.specs.declared.Projected.{Projected}
-use Rattle.field.specs.declared.Projected.TheVariants.{On, None}
+use Rattle.std.specs.Prelude.{Option, Some, None}
 use Rattle.field.specs.Nearest.{dist}
 use Rattle.seeds.specs.declared.Spacing.{Spacing}
 use Rattle.seeds.specs.Seeds.{outside, landed}
@@ -30,7 +29,7 @@ module _ (scene : Scene) (s : Spacing) (target : ℕ) where
     pub number : ℕ
     pub from : 1 ≤ number
     pub to : number ≤ m
-    pub there : landed scene s number ≡ On p
+    pub there : landed scene s number ≡ Some p
 
   -- so many points at most, each where one of the first m seeds landed, and none too close to one before it
   pub record Spread (m : ℕ) (ps : List Vec3) : Type 0 where
@@ -50,12 +49,12 @@ module _ (scene : Scene) (s : Spacing) (target : ℕ) where
       }
 
   -- one that is
-  module _ (m : ℕ) (ps : List Vec3) (p : Vec3) (w : Spread m ps) (e : landed scene s (suc m) ≡ On p) (few : length ps < target) (room : free s (point_at ps) (length ps) p ≡ true) where
+  module _ (m : ℕ) (ps : List Vec3) (p : Vec3) (w : Spread m ps) (e : landed scene s (suc m) ≡ Some p) (few : length ps < target) (room : free s (point_at ps) (length ps) p ≡ true) where
     lands_more : (i : ℕ) → i < length (ps ++ (p ∷ [])) → Landed (suc m) (point_at (ps ++ (p ∷ [])) i)
     lands_more i h =
         let n = length_more ps p in
         elim (eq-or-lt_of_le {n = i} {m = length ps} (omega arith)) [
-          | inl q ↦ record { number = suc m; from = omega arith; to = omega arith; there = e ∙ ap On (sym (ap (point_at (ps ++ (p ∷ []))) q ∙ point_last ps p)) }
+          | inl q ↦ record { number = suc m; from = omega arith; to = omega arith; there = e ∙ ap Some (sym (ap (point_at (ps ++ (p ∷ []))) q ∙ point_last ps p)) }
           | inr k ↦ rw (point_before ps p i k) ((spread_still m ps w).lands i k)
         ]
 
@@ -74,10 +73,10 @@ module _ (scene : Scene) (s : Spacing) (target : ℕ) where
     spread_more : Spread (suc m) (ps ++ (p ∷ []))
     spread_more = record { few = rw (length_more ps p) (omega arith); lands = lands_more; apart = apart_more }
 
-  spread_with : (m : ℕ) (ps : List Vec3) (q : Projected) → landed scene s (suc m) ≡ q → Spread m ps → Spread (suc m) (kept_with s target ps q)
+  spread_with : (m : ℕ) (ps : List Vec3) (q : Option Vec3) → landed scene s (suc m) ≡ q → Spread m ps → Spread (suc m) (kept_with s target ps q)
   unfolding kept_with
   spread_with m ps None e w = spread_still m ps w
-  spread_with m ps (On p) e w = by_test (ltb (length ps) target && free s (point_at ps) (length ps) p) refl
+  spread_with m ps (Some p) e w = by_test (ltb (length ps) target && free s (point_at ps) (length ps) p) refl
     where
       by_test : (t : Bool) → (ltb (length ps) target && free s (point_at ps) (length ps) p) ≡ t → Spread (suc m) (cond t (ps ++ (p ∷ [])) ps)
       by_test true h =

@@ -11,24 +11,23 @@ use Rattle.vector.specs.declared.Vec3.{Vec3}
 use Rattle.vector.specs.Flat.{vec_at, put_at, components}
 use Rattle.vector.proofs.Puts.{at_put_other}
 use Rattle.grid.specs.Cells.{cells, cell_number}
-use Rattle.field.specs.declared.Projected.{Projected}
-use Rattle.field.specs.declared.Projected.TheVariants.{On, None}
+use Rattle.std.specs.Prelude.{Option, Some, None}
 use Rattle.seeds.specs.declared.Spacing.{Spacing}
 use Rattle.placement.specs.Kept.{dims_in, cell_in, free}
 use Rattle.placement.specs.Chains.{key_of, Chains, tried}
 use Rattle.placement.proofs.Chained.{chained_same}
 
-module _ (s : Spacing) (count : ℕ) (p : List Float) {found : Projected} where
+module _ (s : Spacing) (count : ℕ) (p : List Float) {found : Option Vec3} where
   -- a seed that lands nowhere, one that there is room for, and one that there is none for
   pub try_none : found ≡ None → (count, p) ≡ tried s count p found
   unfolding tried
   try_none e = rw e
 
-  pub try_kept : (q : Vec3) → found ≡ On q → free s (vec_at p) count q ≡ true → (count + 1, put_at p count q) ≡ tried s count p found
+  pub try_kept : (q : Vec3) → found ≡ Some q → free s (vec_at p) count q ≡ true → (count + 1, put_at p count q) ≡ tried s count p found
   unfolding tried
   try_kept q e f = rw (e, f)
 
-  pub try_left : (q : Vec3) → found ≡ On q → free s (vec_at p) count q ≡ false → (count, p) ≡ tried s count p found
+  pub try_left : (q : Vec3) → found ≡ Some q → free s (vec_at p) count q ≡ false → (count, p) ≡ tried s count p found
   unfolding tried
   try_left q e f = rw (e, f)
 

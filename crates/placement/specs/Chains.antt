@@ -1,13 +1,11 @@
 -- The chains of the search, head and next, which are scratch: what the functions that walk them ask of each other. No public contract rests on it. Definitions only.
-use Rattle.std.specs.Prelude.{Bool, cond, not, ◌&&◌, List, ◌≡◌, ℕ, zero, suc, ◌+◌, ◌*◌, ◌<◌, ◌≤◌, eqb, Float, length}
+use Rattle.std.specs.Prelude.{Bool, cond, not, ◌&&◌, List, ◌≡◌, ℕ, zero, suc, ◌+◌, ◌*◌, ◌<◌, ◌≤◌, eqb, Float, length, Option, Some, None}
 use Rattle.vector.specs.declared.Vec3.{Vec3}
 use Rattle.vector.specs.Flat.{vec_at, put_at, written}
 use Rattle.accept.specs.Every.{every}
 use Rattle.accept.specs.Tables.{number_at}
 use Rattle.grid.specs.Cells.{cells, cell_number}
 use Rattle.tables.specs.Tables.{Scene}
-use Rattle.field.specs.declared.Projected.{Projected}
-use Rattle.field.specs.declared.Projected.TheVariants.{On, None}
 use Rattle.seeds.specs.declared.Spacing.{Spacing}
 use Rattle.placement.specs.Kept.{dims_in, cell_in, free, point_at, placed}
 
@@ -37,9 +35,9 @@ pub record Chains (s : Spacing) (count : ℕ) (p : List Float) (head next : List
   pub chained : Chained (key_of s (vec_at p)) (cells (dims_in s)) count head next
 
 -- where a seed landed, tried after the first `count` points of p: how many there are then, and p
-unfoldable pub tried : Spacing → ℕ → List Float → Projected → ℕ × List Float
+unfoldable pub tried : Spacing → ℕ → List Float → Option Vec3 → ℕ × List Float
 tried s count p None = (count, p)
-tried s count p (On q) = cond (free s (vec_at p) count q) (count + 1, put_at p count q) (count, p)
+tried s count p (Some q) = cond (free s (vec_at p) count q) (count + 1, put_at p count q) (count, p)
 
 -- how many points are kept of all seeds, and p with them
 unfoldable pub points_left : Scene → Spacing → ℕ → List Float → ℕ × List Float

@@ -1,11 +1,13 @@
 -- Whether surfels can be placed: document 01, 'Refused calls', 2 to 6. Definitions only.
-use Rattle.std.specs.Prelude.{Bool, ◌&&◌, List, [], ◌∷◌, ℕ, leb, length}
+use Rattle.std.specs.Prelude.{Bool, ◌&&◌, [], ◌∷◌, ℕ, leb, length, Result}
 use Rattle.float.specs.Arithmetic.{0f}
 use Rattle.vector.specs.Halton.{of_whole}
 use Rattle.accept.specs.Every.{conj}
 use Rattle.accept.specs.Limits.{max_surfels, max_entries, max_albedo}
 use Rattle.accept.specs.Ranges.{bounds, floats_within}
-use Rattle.accept.specs.Refusal.{first_failed}
+use Rattle.accept.specs.declared.refusal.Refusal.{Refusal}
+use Rattle.accept.specs.declared.refusal.Refusal.TheVariants as refusal
+use Rattle.accept.specs.Refusal.{checked}
 use Rattle.accept.specs.Tables.{at_most, holds}
 use Rattle.grid.specs.Cells.{cells}
 use Rattle.tables.specs.Checks.{counts_within, tables_hold, shapes_within, parts_fit}
@@ -25,38 +27,28 @@ head_need o = cells (dims_in (spacing_for o))
 -- 2: surfels, and the entries of the tables
 unfoldable pub few_enough : Request → Bool
 few_enough o =
-    let s = o.scene in
-    conj (at_most o.target max_surfels ∷ counts_within s.prims s.planes s.objects ∷ at_most o.mats max_entries ∷ [])
+    conj (at_most o.target max_surfels ∷ counts_within o.scene ∷ at_most o.mats max_entries ∷ [])
 
--- 4: columns of so many surfels, by their lengths
-abbrev pub lengths_hold : ℕ → ℕ → ℕ → ℕ → ℕ → ℕ → ℕ → ℕ → Bool
-lengths_hold target p n albedo area direct irr rad =
-    conj
-    (holds p target 3
-    ∷ holds n target 3
-    ∷ holds albedo target 3
-    ∷ leb target area
-    ∷ holds direct target 3
-    ∷ holds irr target 3
-    ∷ holds rad target 3
-    ∷ [])
-
+-- 4: columns of so many surfels
 unfoldable pub columns_hold : ℕ → Columns → Bool
 columns_hold target l =
-    lengths_hold target (length l.p) (length l.n) (length l.albedo) (length l.area) (length l.direct) (length l.irr) (length l.rad)
+    conj
+    (holds (length l.p) target 3
+    ∷ holds (length l.n) target 3
+    ∷ holds (length l.albedo) target 3
+    ∷ leb target (length l.area)
+    ∷ holds (length l.direct) target 3
+    ∷ holds (length l.irr) target 3
+    ∷ holds (length l.rad) target 3
+    ∷ [])
 
--- the tests from 3 on, in their order, each with its number; whether the columns hold is handed in, and the scratch is given by its lengths
-abbrev pub later_tests : Request → Bool → ℕ → ℕ → List (ℕ × Bool)
-later_tests o columns head next =
-    (3, bounds o.lo o.hi)
-    ∷ (4, conj (tables_hold o.scene ∷ holds (length o.materials) o.mats 4 ∷ columns ∷ leb (head_need o) head ∷ leb o.target next ∷ []))
-    ∷ (5, shapes_within o.scene && floats_within o.materials o.mats 4 0f max_albedo)
-    ∷ (6, parts_fit o.scene)
-    ∷ []
-
--- the number that refuses the call, 0 if none does
-abbrev pub refusal_by : Request → Bool → ℕ → ℕ → ℕ
-refusal_by o columns head next = first_failed ((2, few_enough o) ∷ later_tests o columns head next)
-
-unfoldable pub refusal : Request → Columns → ℕ → ℕ → ℕ
-refusal o l head next = refusal_by o (columns_hold o.target l) head next
+-- what refuses the call, if anything does; the scratch is given by its lengths
+unfoldable pub check : Request → Columns → ℕ → ℕ → Result Unit Refusal
+check o l head next =
+    checked
+    ((refusal.Count, few_enough o)
+    ∷ (refusal.Range, bounds o.lo o.hi)
+    ∷ (refusal.Length, conj (tables_hold o.scene ∷ holds (length o.materials) o.mats 4 ∷ columns_hold o.target l ∷ leb (head_need o) head ∷ leb o.target next ∷ []))
+    ∷ (refusal.Float, shapes_within o.scene && floats_within o.materials o.mats 4 0f max_albedo)
+    ∷ (refusal.Scene, parts_fit o.scene)
+    ∷ [])

@@ -1,6 +1,6 @@
 -- Which seeds are kept as surfels: document 01, 'Placement'. Seeds in order, each kept where it lands on the surface within the bounds, and no point kept before it in its own or a
 -- neighbouring cell is at a squared distance under the square of the least distance. Definitions only.
-use Rattle.std.specs.Prelude.{Bool, cond, not, ◌&&◌, List, [], ◌∷◌, ◌++◌, ℕ, zero, suc, ◌+◌, ◌*◌, min, leb, ltb, length, get_or}
+use Rattle.std.specs.Prelude.{Bool, cond, not, ◌&&◌, List, [], ◌∷◌, ◌++◌, ℕ, zero, suc, ◌+◌, ◌*◌, min, leb, ltb, length, get_or, Option, Some, None}
 use Rattle.std.specs.Float.Ieee.{lt}
 use Rattle.float.specs.Arithmetic.{◌*f◌, ◌/f◌, 1f}
 use Rattle.vector.specs.declared.Vec3.{Vec3}
@@ -9,10 +9,9 @@ use Rattle.vector.specs.Flat.{written, filled}
 use Rattle.accept.specs.Every.{every, conj}
 use Rattle.grid.specs.declared.Cell.{Cell}
 use Rattle.grid.specs.declared.Dims.{Dims}
+use Rattle.grid.specs.declared.Space.{Space}
 use Rattle.grid.specs.Cells.{dims_of, cell_of}
 use Rattle.tables.specs.Tables.{Scene}
-use Rattle.field.specs.declared.Projected.{Projected}
-use Rattle.field.specs.declared.Projected.TheVariants.{On, None}
 use Rattle.seeds.specs.declared.Spacing.{Spacing}
 use Rattle.seeds.specs.declared.Surfel.{Surfel}
 use Rattle.seeds.specs.Seeds.{landed}
@@ -22,9 +21,12 @@ use Rattle.placement.specs.Lent.{Columns}
 unfoldable pub seed_count : ℕ → ℕ
 seed_count target = min (target * 24) 6000000
 
--- the cells of the box, whose side is the least distance, and the cell of a point
+-- the cells of the box, whose side is the least distance; the box and that side; and the cell of a point
 abbrev pub dims_in : Spacing → Dims
 dims_in s = dims_of s.lo s.hi s.d_min
+
+abbrev pub space_of : Spacing → Space
+space_of s = record { lo = s.lo; hi = s.hi; cell = s.d_min }
 
 abbrev pub cell_in : Spacing → Vec3 → Cell
 cell_in s p = cell_of p s.lo (1f /f s.d_min) (dims_in s)
@@ -53,9 +55,9 @@ abbrev pub point_at : List Vec3 → ℕ → Vec3
 point_at ps i = get_or ps i zero_vec
 
 -- the points kept so far and where the next seed landed: it is kept after them while they are fewer than the target, if none of them is too close
-unfoldable pub kept_with : Spacing → ℕ → List Vec3 → Projected → List Vec3
+unfoldable pub kept_with : Spacing → ℕ → List Vec3 → Option Vec3 → List Vec3
 kept_with s target ps None = ps
-kept_with s target ps (On p) = cond (ltb (length ps) target && free s (point_at ps) (length ps) p) (ps ++ (p ∷ [])) ps
+kept_with s target ps (Some p) = cond (ltb (length ps) target && free s (point_at ps) (length ps) p) (ps ++ (p ∷ [])) ps
 
 -- the points kept of the first m seeds; their numbers start at 1
 unfoldable pub kept : Scene → Spacing → ℕ → ℕ → List Vec3

@@ -48,6 +48,11 @@ abbrev pub columns_out : MutSlice Float → MutSlice Float → MutSlice Float �
 columns_out p n albedo area direct irr rad =
     columns_of p.exit.now n.exit.now albedo.exit.now area.exit.now direct.exit.now irr.exit.now rad.exit.now
 
+-- those that a function only reads
+abbrev pub columns_lent : Slice Float → Slice Float → Slice Float → Slice Float → Slice Float → Slice Float → Slice Float → Columns
+columns_lent p n albedo area direct irr rad =
+    columns_of p.entry.now n.entry.now albedo.entry.now area.entry.now direct.entry.now irr.entry.now rad.entry.now
+
 -- those that a function which only reads the points was lent, and as it leaves them
 abbrev pub columns_read : Slice Float → MutSlice Float → MutSlice Float → MutSlice Float → MutSlice Float → MutSlice Float → MutSlice Float → Columns
 columns_read p n albedo area direct irr rad =

@@ -8,37 +8,43 @@ ghost use Rattle.grid.specs.Cells.{cells};
 ghost use Rattle.placement.specs.Kept.{dims_in, closer};
 ghost use Rattle.placement.specs.Chains.{Chains, key_of, vacant};
 
+use crate::layout::block_near;
 use accept::wide;
-use grid::block_near;
 use seeds::Spacing;
 use vector::Vec3;
 
-// Whether no point kept in cell c is too close to `at`.
-pub fn vacant(
-    s: Spacing,
-    count: usize,
-    p: &[f32],
-    head: &[u32],
-    next: &[u32],
-    c: usize,
-    at: Vec3,
-) -> bool
-    requires c_bound { c < cells (dims_in s) }
-    requires chains { Chains s count p.now head.now next.now }
-    ensures { result ≡ vacant (key_of s (vec_at p.now)) (λ j. closer s at (vec_at p.now j)) c count }
-{
-    let mut link = wide(head[c]);
-    while link > 0 {
-        let j = link - 1;
-        if closer(s, at, point_at(p, j)) {
-            return false;
+// The points kept so far, the first `count` of p, and their chains.
+#[derive(Drop)]
+pub struct Kept<'a> {
+    pub s: Spacing,
+    pub count: usize,
+    pub p: &'a [f32],
+    pub head: &'a [u32],
+    pub next: &'a [u32],
+    ghost chained: { Chains s count p.now head.now next.now },
+}
+
+impl Kept<'_> {
+    // Whether none of them in cell c is too close to `at`.
+    // Kept: the loop follows a chain through `next`, which no range of numbers gives.
+    pub fn vacant(&self, c: usize, at: Vec3) -> bool
+        requires { c < cells (dims_in self.now.s) }
+        ensures { result ≡ vacant (key_of self.now.s (vec_at self.now.p.now)) (λ j. closer self.now.s at (vec_at self.now.p.now j)) c self.now.count }
+    {
+        let mut link = wide(self.head[c]);
+        while link > 0 {
+            let j = link - 1;
+            if closer(self.s, at, point_at(self.p, j)) {
+                return false;
+            }
+            link = wide(self.next[j]);
         }
-        link = wide(next[j]);
+        true
     }
-    true
 }
 
 // Whether q is closer to p than surfels may lie.
+#[tactic(auto, unfolding(crate::specs::Kept::closer))]
 fn closer(s: Spacing, p: Vec3, q: Vec3) -> bool
     ensures { result ≡ closer s p q }
 {
@@ -46,6 +52,7 @@ fn closer(s: Spacing, p: Vec3, q: Vec3) -> bool
 }
 
 // The point number j of p.
+// Kept: each crate that reads so has its own, since a public one could ask nothing of its caller.
 fn point_at(p: &[f32], j: usize) -> Vec3
     requires { 3 * j + 2 < length p.now }
     ensures { result ≡ vec_at p.now j }
@@ -68,7 +75,7 @@ pub fn chain(s: Spacing, count: usize, p: &[f32], head: &mut [u32], next: &mut [
     ensures kept_from { KeptFrom (cells (dims_in s)) head }
     ensures kept_from_2 { KeptFrom (count + 1) next }
 {
-    let own = block_near(s.lo, s.hi, s.d_min, at, 0);
+    let own = block_near(s, at, 0);
     let c = own.first;
     next[count] = head[c];
     head[c] = (count + 1) as u32;

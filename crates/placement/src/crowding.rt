@@ -3,39 +3,32 @@ ghost use Rattle.std.specs.Prelude.{◌≡◌, ◌+◌, ◌<◌};
 ghost use Rattle.vector.specs.Flat.{vec_at};
 ghost use Rattle.grid.specs.Rows.{row_cell};
 ghost use Rattle.placement.specs.Kept.{free};
-ghost use Rattle.placement.specs.Chains.{Chains};
 
-use crate::chaining::vacant;
-use grid::{Block, block_near};
-use seeds::Spacing;
+use crate::chaining::Kept;
+use crate::layout::block_near;
+use grid::Block;
 use vector::Vec3;
 
-// Whether none of the first `count` points is too close to `at`: the search over the cells about it
-// ends at the first that is.
-pub fn free(s: Spacing, count: usize, p: &[f32], head: &[u32], next: &[u32], at: Vec3) -> bool
-    requires { Chains s count p.now head.now next.now }
-    ensures { result ≡ free s (vec_at p.now) count at }
-{
-    let b = block_near(s.lo, s.hi, s.d_min, at, 1);
-    let mut alone = true;
-    let mut z = 0;
-    'search: while z < b.layers {
-        let mut y = 0;
-        while y < b.rows {
-            let mut x = 0;
-            while x < b.wide {
-                let c = cell_at(b, x, y, z);
-                if !vacant(s, count, p, head, next, c, at) {
-                    alone = false;
-                    break 'search;
+impl Kept<'_> {
+    // Whether none of the points is too close to `at`: the search over the cells about it ends at the
+    // first that is.
+    pub fn free(&self, at: Vec3) -> bool
+        ensures { result ≡ free self.now.s (vec_at self.now.p.now) self.now.count at }
+    {
+        let b = block_near(self.s, at, 1);
+        let mut alone = true;
+        'search: for z in 0..b.layers {
+            for y in 0..b.rows {
+                for x in 0..b.wide {
+                    if !self.vacant(cell_at(b, x, y, z), at) {
+                        alone = false;
+                        break 'search;
+                    }
                 }
-                x += 1;
             }
-            y += 1;
         }
-        z += 1;
+        alone
     }
-    alone
 }
 
 // The number of cell x of row y of layer z of a block.

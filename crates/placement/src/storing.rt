@@ -1,26 +1,18 @@
 // Surfels stored in their columns.
 ghost use Rattle.std.specs.Prelude.{◌≡◌, set};
 ghost use Rattle.vector.specs.Flat.{vec_at, put_at};
-ghost use Rattle.tables.specs.Tables.{scene_in};
 ghost use Rattle.seeds.specs.Surfels.{surfel_at};
 ghost use Rattle.placement.specs.Lent.{columns_now, columns_over, columns_read};
 ghost use Rattle.placement.specs.Kept.{columns_by};
 ghost use Rattle.placement.specs.Needs.{Roomy};
 
+use crate::Request;
 use seeds::{Spacing, Surfel, surfel_at};
 use vector::{at, put, put_float};
 
 // Makes the surfels at the first `count` points of p, and stores them.
 pub fn store(
-    prims: usize,
-    planes: usize,
-    objects: usize,
-    kinds: &[u32],
-    lengths: &[f32],
-    plane_parts: &[u32],
-    object_parts: &[u32],
-    mats: usize,
-    materials: &[f32],
+    request: &Request,
     s: Spacing,
     count: usize,
     p: &[f32],
@@ -33,26 +25,11 @@ pub fn store(
 )
     requires { Roomy count (columns_now p n albedo area direct irr rad) }
     ensures { columns_over p n albedo area direct irr rad
-        ≡ columns_by (λ i. surfel_at (scene_in prims planes objects kinds lengths plane_parts object_parts) mats
-        materials.now s (vec_at p.now i)) count (columns_read p n albedo area direct irr rad) }
+        ≡ columns_by (λ i. surfel_at request.now.scene request.now.mats request.now.materials s (vec_at p.now i)) count (columns_read p n albedo area direct irr rad) }
 {
-    let mut i = 0;
-    while i < count {
-        let made = surfel_at(
-            prims,
-            planes,
-            objects,
-            kinds,
-            lengths,
-            plane_parts,
-            object_parts,
-            mats,
-            materials,
-            s,
-            at(p, i),
-        );
+    for i in 0..count {
+        let made = surfel_at(&request.scene, request.mats, request.materials, s, at(p, i));
         put_surfel(made, i, n, albedo, area, direct, irr, rad);
-        i += 1;
     }
 }
 

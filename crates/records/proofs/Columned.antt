@@ -1,28 +1,29 @@
 -- The columns of records, what a reset leaves of them, and that columns tell their records. Assumes nothing.
-use mathlib.Core.Bool.{Bool, true, false, ◌&&◌, and-eq-true_iff, true≢false}
-use mathlib.Core.List.{List, [], ◌∷◌, ◌++◌, append_assoc}
+use mathlib.Core.Bool.{Bool, true, false, cond, ◌&&◌}
+use mathlib.Core.List.{List, [], ◌∷◌, ◌++◌, append-nil}
 use mathlib.Core.Path.{◌≡◌, refl, sym, ap, ◌∙◌}
 use Prim.Native.Nat.{ℕ, zero, suc, ◌+◌, ◌*◌, ◌<◌, ◌≤◌}
-use mathlib.Core.Logic.{inl, inr}
 use native.Mathlib.Omega.{arith}
-use borrow.Author.Tests.{lt-ltb, lt-leb, ltb-true, eqb-true, ne_eqb}
-use lib.Dec.{leb, ltb, eqb}
+use borrow.Author.Tests.{lt-leb, leb-false}
+use lib.Dec.{leb}
 use lib.Ieee.{Float}
-use lib.ListN.{length, set, drop, drop_of_length-le}
+use lib.ListN.{length, set, drop, replicate, drop_of_length-le}
 use Rattle.float.specs.Arithmetic.{0f}
-use Rattle.float.proofs.Numbers.{here_or_on}
 use Rattle.vector.specs.declared.Vec3.{Vec3}
 use Rattle.vector.specs.Flat.{vec_at, components, rows, replaced, written, filled}
 use Rattle.vector.specs.Vector.{zero_vec}
 use Rattle.vector.proofs.Replaced.{filled_none, filled_put, length_filled, written_there}
 use Rattle.accept.specs.Limits.{max_surfels}
-use Rattle.accept.specs.Refusal.{first_failed, answered}
-use Rattle.reset.specs.declared.ResetAnswer.TheVariants.{Refused, Done}
-use Rattle.reset.specs.Resetting.{reset_refusal, reset_answer}
+use Rattle.std.specs.Prelude.{Result, Ok, Err}
+use Rattle.std.proofs.lemmas.List.{replicate-append-replicate}
+use Rattle.accept.specs.declared.refusal.Refusal.{Refusal}
+use Rattle.accept.specs.declared.refusal.Refusal.TheVariants.{Count}
+use Rattle.accept.specs.Refusal.{checked}
+use Rattle.reset.specs.Resetting.{check, reset_answer}
 use Rattle.reset.proofs.Stored.{reset_lengths}
 use Rattle.records.specs.declared.Light.{Light}
 use Rattle.records.specs.Columns.{column, directs, irrs, rads, left_in, reset_columns}
-use Rattle.records.specs.Needs.{number_for, light_at}
+use Rattle.records.specs.Needs.{check_for, light_at}
 
 three_more : (n : ℕ) → 3 * suc n ≡ suc (suc (suc (3 * n)))
 three_more n = omega arith
@@ -62,49 +63,34 @@ over_all light l n p q =
     ∙ written_there (vec_at light) n light (omega arith) (λ i h. refl)
 
 -- n vectors of zeros are 3 n zeros
-zero_rows : (n : ℕ) → rows (λ i. components zero_vec) n ≡ rows (λ i. 0f ∷ []) (3 * n)
+zero_rows : (n : ℕ) → rows (λ i. components zero_vec) n ≡ replicate (3 * n) 0f
 unfolding rows
 zero_rows zero = refl
-zero_rows (suc n) = rw (three_more n, zero_rows n, append_assoc, append_assoc)
+zero_rows (suc n) = let e : 3 * suc n ≡ 3 * n + 3 = omega arith in rw (e, zero_rows n) (replicate-append-replicate (3 * n) 3 0f)
 
-zeros_over : (l : List Float) (n : ℕ) → written (λ i. zero_vec) n l ≡ filled (λ k. 0f) (3 * n) l
+zeros_over : (l : List Float) (n : ℕ) → length l ≡ 3 * n → written (λ i. zero_vec) n l ≡ replicate (3 * n) 0f
 unfolding replaced
-zeros_over l n = let f : 1 * (3 * n) ≡ 3 * n = omega arith in rw (f, zero_rows n)
+zeros_over l n h = rw (drop_of_length-le l {i = 3 * n} (omega arith)) (append-nil (rows (λ i. components zero_vec) n) ∙ zero_rows n)
 
 -- ---- a reset
 
 -- more records than the most surfels are refused with 2, whatever the light is
-pub refused_two : (light : List Float) (n : ℕ) → max_surfels < n → 2 ≡ number_for light n
-unfolding number_for reset_refusal first_failed
+pub refused_two : (light : List Float) (n : ℕ) → max_surfels < n → check_for light n ≡ Err Count
+unfolding check_for check checked
 refused_two light n h = rw (lt-leb (3 * n) (3 * max_surfels) (omega arith), never_after (leb (length light) (3 * max_surfels)))
   where
     never_after : (a : Bool) → (a && false) ≡ false
     never_after true = refl
     never_after false = refl
 
--- how many of n records are set, where this number refuses the call
-abbrev pub set_count : ℕ → ℕ → ℕ
-set_count zero n = n
-set_count (suc number) n = 0
-
-pub set_most : (number n : ℕ) → set_count number n ≤ n
-set_most zero n = omega arith
-set_most (suc number) n = omega arith
-
--- where the loop's test holds a record is left to set, and where it fails none is
-pub test_more : (number n i : ℕ) → (ltb i n && eqb number 0) ≡ true → i < set_count number n
-test_more zero n i e = ltb-true i n ((and-eq-true_iff (ltb i n) (eqb zero 0)).0 e).0
-test_more (suc number) n i e = absurd (no (eqb-true (suc number) 0 ((and-eq-true_iff (ltb i n) (eqb (suc number) 0)).0 e).1))
+-- so a count that is tested before them refuses as they do
+pub refused_first : (light : List Float) (n : ℕ) {refusal : Refusal}
+    → ◌≡◌ {A = Result Unit Refusal} (cond (leb n max_surfels) (Ok tt) (Err Count)) (Err refusal) → Err refusal ≡ check_for light n
+refused_first light n {refusal} h = by_test (leb n max_surfels) refl h
   where
-    no : suc number ≡ 0 → ⊥
-    no h = omega arith
-
-pub test_last : (number n i : ℕ) → i ≤ set_count number n → (ltb i n && eqb number 0) ≡ false → i ≡ set_count number n
-test_last zero n i h e = elim (here_or_on i n) [
-  | inl l ↦ absurd (true≢false (sym (rw (lt-ltb i n l)) ∙ e))
-  | inr g ↦ omega arith
-]
-test_last (suc number) n i h e = omega arith
+    by_test : (b : Bool) → leb n max_surfels ≡ b → ◌≡◌ {A = Result Unit Refusal} (cond b (Ok tt) (Err Count)) (Err refusal) → Err refusal ≡ check_for light n
+    by_test true e h = cc
+    by_test false e h = sym h ∙ sym (refused_two light n (leb-false n max_surfels e))
 
 -- the records when the first i are set
 unfoldable pub set_to : List Float → ℕ → List Light → List Light
@@ -123,13 +109,19 @@ unfolding set_to
 set_more light i rs h = filled_put (light_at light) i rs refl h refl refl
 
 module _ (light : List Float) (rs : List Light) where
-  set_by : (number : ℕ) → reset_refusal light (3 * length rs) (3 * length rs) (3 * length rs) ≡ number
-      → left_in (answered Refused Done number) (set_to light (set_count number (length rs)) rs)
-      ≡ answered (λ k. (Refused k, directs rs, irrs rs, rads rs)) (Done, light, filled (λ k. 0f) (3 * length rs) (irrs rs), light) number
-  unfolding set_to light_at
-  set_by zero e =
+  -- a reset of them that is refused leaves them
+  pub set_refused : {refusal : Refusal} → check_for light (length rs) ≡ Err refusal → left_in (Err refusal) rs ≡ reset_columns light rs
+  unfolding check_for reset_answer
+  set_refused e =
+      rw (length_column (λ r. r.direct) rs, length_column (λ r. r.irr) rs, length_column (λ r. r.rad) rs, e)
+
+  -- once the last is set, they are what a reset of their columns leaves
+  pub all_set : check_for light (length rs) ≡ Ok tt → left_in (Ok tt) (set_to light (length rs) rs) ≡ reset_columns light rs
+  unfolding check_for reset_answer set_to light_at
+  all_set e =
       let w = reset_lengths light (3 * length rs) (3 * length rs) (3 * length rs) e in
       let d = length_column (λ r. r.direct) rs in
+      let i = length_column (λ r. r.irr) rs in
       let q = length_column (λ r. r.rad) rs in
       let n = length rs in
       rw (
@@ -137,19 +129,13 @@ module _ (light : List Float) (rs : List Light) where
         column_filled (λ r. r.irr) (light_at light) n rs,
         column_filled (λ r. r.rad) (light_at light) n rs,
         over_all light (directs rs) n (sym w.0) d,
-        zeros_over (irrs rs) n,
+        zeros_over (irrs rs) n i,
         over_all light (rads rs) n (sym w.0) q,
+        d,
+        i,
+        q,
+        e,
       )
-  set_by (suc number) e =
-      let z = ne_eqb (suc number) 0 (λ y. absurd (omega arith)) in
-      rw (z, ← filled_none (light_at light) rs)
-
-  -- once the last is set, they are what a reset of their columns leaves, refused or not
-  pub all_set : left_in (answered Refused Done (number_for light (length rs))) (set_to light (set_count (number_for light (length rs)) (length rs)) rs) ≡ reset_columns light rs
-  unfolding number_for reset_answer
-  all_set =
-      rw (length_column (λ r. r.direct) rs, length_column (λ r. r.irr) rs, length_column (λ r. r.rad) rs)
-      (set_by (reset_refusal light (3 * length rs) (3 * length rs) (3 * length rs)) refl)
 
 -- ---- columns tell their records
 

@@ -1,13 +1,14 @@
 -- What the functions beneath the entry say to each other. No public contract rests on these. Definitions only.
-use Rattle.std.specs.Prelude.{List, ℕ, ◌*◌, Float}
+use Rattle.std.specs.Prelude.{List, ℕ, ◌*◌, Float, Result}
 use Rattle.vector.specs.Flat.{vec_at}
 use Rattle.vector.specs.Vector.{zero_vec}
-use Rattle.reset.specs.Resetting.{reset_refusal}
+use Rattle.accept.specs.declared.refusal.Refusal.{Refusal}
+use Rattle.reset.specs.Resetting.{check}
 use Rattle.records.specs.declared.Light.{Light}
 
--- the number that refuses a reset to this light of n records, 0 if none does
-unfoldable pub number_for : List Float → ℕ → ℕ
-number_for light n = reset_refusal light (3 * n) (3 * n) (3 * n)
+-- why a reset to this light of n records is refused, if it is
+unfoldable pub check_for : List Float → ℕ → Result Unit Refusal
+check_for light n = check light (3 * n) (3 * n) (3 * n)
 
 -- record number i of a reset to this light
 unfoldable pub light_at : List Float → ℕ → Light

@@ -1,6 +1,6 @@
 // The light of surfels as records, one a surfel, and their reset.
 //
-// The entry refuses by document 01's numbers. No public function has a `requires`.
+// No public function has a `requires`.
 #![tactic(auto)]
 
 mod resetting;

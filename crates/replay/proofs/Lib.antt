@@ -1,2 +1,4 @@
 -- What the proofs of several functions use.
-pub mod Scanned
+pub mod Cut
+pub mod Named
+pub mod Tables

@@ -1,3 +1,4 @@
 -- The definitions that the contracts of `replay` cite.
 pub mod Lines
+pub mod Vectors
 pub mod Words

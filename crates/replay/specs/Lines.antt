@@ -1,5 +1,5 @@
 -- Lines of a text, for the programs that replay answers. Definitions only.
-use Rattle.std.specs.Prelude.{Bool, true, false, cond, ◌&&◌, List, [], ◌∷◌, ℕ, suc, ◌+◌, eqb, drop}
+use Rattle.std.specs.Prelude.{Bool, true, false, cond, ◌&&◌, List, [], ◌∷◌, ℕ, suc, ◌+◌, eqb, drop, take, position, unwrap_or, ◌==◌}
 
 -- how many bytes the first line of a text has, its newline counted
 unfoldable pub line_length : List ℕ → ℕ
@@ -10,8 +10,22 @@ line_length (b ∷ l) = cond (eqb b 10) 1 (suc (line_length l))
 abbrev pub line_end : List ℕ → ℕ → ℕ
 line_end l at = at + line_length (drop at l)
 
+-- one byte more in front of the first line
+unfoldable pub with_first : ℕ → List (List ℕ) → List (List ℕ)
+with_first b [] = (b ∷ []) ∷ []
+with_first b (x ∷ xs) = (b ∷ x) ∷ xs
+
+-- the lines of a text: each ends after its newline, the last maybe without one
+unfoldable pub lines_of : List ℕ → List (List ℕ)
+lines_of [] = []
+lines_of (b ∷ l) = cond (eqb b 10) ((b ∷ []) ∷ lines_of l) (with_first b (lines_of l))
+
 -- whether a list starts with p
 unfoldable pub starts : List ℕ → List ℕ → Bool
 starts [] l = true
 starts (a ∷ p) [] = false
 starts (a ∷ p) (b ∷ l) = eqb b a && starts p l
+
+-- the name of a line: the bytes before its first space; none where it has no space
+abbrev pub name_of : List ℕ → List ℕ
+name_of l = take (unwrap_or (position (λ b. b == 32) l) 0) l

@@ -1,22 +1,16 @@
 -- Words put together one after the other, for the programs that replay answers. Definitions only.
-use Rattle.std.specs.Prelude.{cond, ℕ, ◌+◌, ltb, set, replicate}
-use Rattle.std.specs.Float.{binary32}
-use Rattle.std.specs.Float.Ieee.{to_bits, of_bits}
-use Rattle.vector.specs.declared.Vec3.{Vec3}
-use Rattle.replay.specs.declared.Words.{Words}
+use Rattle.std.specs.Prelude.{cond, ℕ, ltb, List, [], ◌∷◌, ◌++◌, length}
+use Rattle.std.proofs.lemmas.List.Edits.{sets}
 
 -- no words
-abbrev pub none : Words
-none = record { words = replicate 16 0; count = 0 }
+abbrev pub none : List ℕ
+none = []
 
 -- one more word; unchanged where there are 16
-abbrev pub with : Words → ℕ → Words
-with r w = cond (ltb r.count 16) (record { words = set r.words r.count w; count = r.count + 1 }) r
+abbrev pub with : List ℕ → ℕ → List ℕ
+with r w = cond (ltb (length r) 16) (r ++ (w ∷ [])) r
 
--- the bits of a vector's three floats more
-abbrev pub with_vector : Words → Vec3 → Words
-with_vector r v = with (with (with r (to_bits binary32 v.x)) (to_bits binary32 v.y)) (to_bits binary32 v.z)
-
--- the vector of three words
-abbrev pub vector_of : ℕ → ℕ → ℕ → Vec3
-vector_of x y z = record { x = of_bits binary32 x; y = of_bits binary32 y; z = of_bits binary32 z }
+-- a table with what words say put into it: the words after the first, from the place on that the first names
+abbrev pub sets_from : {X : Type 0} → (List ℕ → List X) → List X → List ℕ → List X
+sets_from read table [] = table
+sets_from read table (at ∷ words) = sets table at (read words)

@@ -1,23 +1,16 @@
-// What the replay programs share: a text cut into lines, a line's name and words, tables that store
-// them, and a line of words printed.
+// What the replay programs share: standard input read line by line, a line's name and words, tables that
+// store words, and answers printed.
 //
 // A line is a name, then words of eight hexadecimal digits, a single space before each, and a
 // newline. No public function has a `requires`.
 #![tactic(auto)]
 
 mod line;
-mod print;
-mod result;
+mod replaying;
 mod table;
+mod words;
 
-pub use line::{line_end, named, operands};
-pub use print::print_words;
-pub use result::{refused, short, vec};
-pub use table::{part, put_floats, put_numbers, shown, shown_floats};
-
-// Up to 16 words, the operands or the result of a case: the first `count` of them.
-#[derive(Clone, Copy)]
-pub struct Words {
-    pub words: [u32; 16],
-    pub count: usize,
-}
+pub use line::{Line, Lines};
+pub use replaying::{Replay, print_table, run};
+pub use table::{Word, lent, lent_mut, part, put, put_at, shown};
+pub use words::{Words, refused, short, vec};

@@ -1,92 +1,110 @@
 // Tables of numbers and of floats, as the replay programs store them: words put into a table, words
 // shown of it, and how much of it is lent.
-ghost use Rattle.std.specs.Prelude.{◌≤◌};
+ghost use Rattle.std.specs.Prelude.{◌≡◌, ℕ, min, map, take, drop};
+ghost use Rattle.std.proofs.lemmas.List.Edits.{sets};
+ghost use Rattle.replay.specs.Words.{sets_from};
 
 use crate::Words;
-use float::of_bits;
+use float::{bits_of, of_bits};
 
-// Puts the words after the first one after the other, from the place on that the first names, as
-// far as they are given and the table has places.
-pub fn put_numbers(table: &mut [u32], given: Words) {
-    let w = given.words;
-    let from = w[0] as usize;
-    let mut i = 0;
-    while i < 15 {
-        let k = place(from, i, table.len());
-        put_number(table, k, w[i + 1], i + 1 < given.count);
-        i += 1;
+// What stands at a place of a table, and is written as a word.
+pub trait Word: Copy {
+    ghost bits: { Self → ℕ };
+
+    ghost read: { ℕ → Self };
+
+    // Its word.
+    fn word(self) -> u32
+        ensures { result ≡ bits self };
+
+    // What the word says.
+    fn of_word(word: u32) -> Self
+        ensures { result ≡ read word };
+}
+
+impl Word for u32 {
+    ghost bits = { λ n. n };
+
+    ghost read = { λ w. w };
+
+    fn word(self) -> u32 {
+        self
+    }
+
+    fn of_word(word: u32) -> u32 {
+        word
     }
 }
 
-// The same in a table of floats.
-pub fn put_floats(table: &mut [f32], given: Words) {
-    let w = given.words;
-    let from = w[0] as usize;
-    let mut i = 0;
-    while i < 15 {
-        let k = place(from, i, table.len());
-        put_float(table, k, w[i + 1], i + 1 < given.count);
-        i += 1;
+// A float's word is its bits, 7FC00000 for NaN.
+impl Word for f32 {
+    ghost use Rattle.std.specs.Float.{binary32};
+    ghost use Rattle.std.specs.Float.Ieee.{to_bits, of_bits};
+
+    ghost bits = { to_bits binary32 };
+
+    ghost read = { of_bits binary32 };
+
+    fn word(self) -> u32 {
+        bits_of(self)
+    }
+
+    fn of_word(word: u32) -> f32 {
+        of_bits(word)
+    }
+}
+
+// Puts the words after the first one after the other, from the place on that the first names, as
+// far as they are given and the table has places.
+pub fn put<W: Word>(table: &mut [W], given: &Words)
+    ensures { table.new ≡ sets_from (map W.read) table.old given.now }
+{
+    if let Some((from, words)) = given.as_slice().split_first() {
+        put_at(table, *from as usize, words);
+    }
+}
+
+// Puts the words one after the other, from place `at` on, as far as the table has places.
+pub fn put_at<W: Word>(table: &mut [W], at: usize, words: &[u32])
+    ensures { table.new ≡ sets table.old at (map W.read words.now) }
+{
+    let places = table.len().saturating_sub(at);
+    for k in 0..words.len().min(places) {
+        table[at + k] = W::of_word(words[k]);
     }
 }
 
 // Up to 16 words of a table from place `at` on.
-pub fn shown(table: &[u32], at: usize) -> Words {
+pub fn shown<W: Word>(table: &[W], at: usize) -> Words
+    ensures { result ≡ map W.bits (take 16 (drop at table.now)) }
+{
     let mut words = Words::none();
-    let mut i = 0;
-    while i < 16 {
-        let k = place(at, i, table.len());
-        if k < table.len() {
-            words = words.with(table[k]);
+    if at < table.len() {
+        for x in lent(&table[at..], 16) {
+            words = words.with(x.word());
         }
-        i += 1;
     }
     words
 }
 
-// The same of a table of floats.
-pub fn shown_floats(table: &[f32], at: usize) -> Words {
-    let mut words = Words::none();
-    let mut i = 0;
-    while i < 16 {
-        let k = place(at, i, table.len());
-        if k < table.len() {
-            words = words.with_float(table[k]);
-        }
-        i += 1;
-    }
-    words
+// As much of a table as is asked for, at most all of it.
+pub fn lent<T>(table: &[T], length: usize) -> &[T]
+    ensures { result.now ≡ take length table.now }
+{
+    &table[..part(length, table.len())]
+}
+
+// The same of a table that a call writes.
+pub fn lent_mut<T>(table: &mut [T], length: usize) -> &mut [T]
+    ensures { result.now ≡ take length table.old }
+{
+    let end = part(length, table.len());
+    &mut table[..end]
 }
 
 // So much of a table is lent: as much as asked for, at most all its places.
 pub fn part(length: usize, places: usize) -> usize
-    ensures { result ≤ places }
+    ensures { result ≡ min length places }
 {
-    if length <= places { length } else { places }
-}
-
-// Puts the word at place k, if it is given and the table has the place.
-fn put_number(table: &mut [u32], k: usize, word: u32, is_given: bool) {
-    if is_given {
-        if k < table.len() {
-            table[k] = word;
-        }
-    }
-}
-
-// The same in a table of floats.
-fn put_float(table: &mut [f32], k: usize, word: u32, is_given: bool) {
-    if is_given {
-        vector::put_float(table, k, of_bits(word));
-    }
-}
-
-// The place i after `from` in a table of so many; where it has no such place, how many it has.
-fn place(from: usize, i: usize, places: usize) -> usize {
-    if i < places {
-        if from < places - i {
-            return from + i;
-        }
-    }
-    places
+    length.min(places)
 }

@@ -1,110 +1,72 @@
 // What an operation answers.
 use float::of_bits;
-use replay::{Words, named, vec};
+use replay::{Line, Words, vec};
 use vector::Vec3;
 
 // The result words of the case that a line is; none where it is no case.
-pub fn to(line: &[u8]) -> Words {
-    let operands = replay::operands(line);
-    let w = operands.words;
-    let count = operands.count;
-    if count == 1 {
-        of_one(line, of_bits(w[0]))
-    } else if count == 2 {
-        of_two(line, of_bits(w[0]), w[1])
-    } else if count == 3 {
-        of_three(line, vec(w[0], w[1], w[2]))
-    } else if count == 4 {
-        of_four(line, vec(w[0], w[1], w[2]), of_bits(w[3]))
-    } else if count == 6 {
-        of_six(line, vec(w[0], w[1], w[2]), vec(w[3], w[4], w[5]))
-    } else {
-        Words::none()
+pub fn to(line: &Line<'_>) -> Words {
+    match line.given.as_slice() {
+        [x] => of_one(line.name, of_bits(*x)),
+        [a, b] => of_two(line.name, of_bits(*a), *b),
+        [x, y, z] => of_three(line.name, vec(*x, *y, *z)),
+        [x, y, z, k] => of_four(line.name, vec(*x, *y, *z), of_bits(*k)),
+        [x, y, z, u, v, w] => of_six(line.name, vec(*x, *y, *z), vec(*u, *v, *w)),
+        _ => Words::none(),
     }
 }
 
-fn of_one(line: &[u8], x: f32) -> Words {
-    if named(line, b"sqrt") {
-        return float_word(float::sqrt(x));
+fn of_one(name: &[u8], x: f32) -> Words {
+    match name {
+        b"sqrt" => float_word(float::sqrt(x)),
+        b"abs" => float_word(float::abs(x)),
+        b"signum" => float_word(float::signum(x)),
+        b"finite" => Words::none().with(u32::from(float::is_finite(x))),
+        b"count" => whole(float::cell_count(x)),
+        _ => Words::none(),
     }
-    if named(line, b"abs") {
-        return float_word(float::abs(x));
-    }
-    if named(line, b"signum") {
-        return float_word(float::signum(x));
-    }
-    if named(line, b"finite") {
-        return Words::none().with(float::is_finite(x) as u32);
-    }
-    if named(line, b"count") {
-        return whole(float::cell_count(x));
-    }
-    Words::none()
 }
 
-fn of_two(line: &[u8], a: f32, b: u32) -> Words {
-    if named(line, b"max") {
-        return float_word(float::max(a, of_bits(b)));
+fn of_two(name: &[u8], a: f32, b: u32) -> Words {
+    match name {
+        b"max" => float_word(float::max(a, of_bits(b))),
+        b"min" => float_word(float::min(a, of_bits(b))),
+        b"product" => float_word(subnormal::product(a, of_bits(b))),
+        b"quotient" => float_word(subnormal::quotient(a, of_bits(b))),
+        b"cell" => whole(float::cell(a, b as usize)),
+        _ => Words::none(),
     }
-    if named(line, b"min") {
-        return float_word(float::min(a, of_bits(b)));
-    }
-    if named(line, b"product") {
-        return float_word(subnormal::product(a, of_bits(b)));
-    }
-    if named(line, b"quotient") {
-        return float_word(subnormal::quotient(a, of_bits(b)));
-    }
-    if named(line, b"cell") {
-        return whole(float::cell(a, b as usize));
-    }
-    Words::none()
 }
 
-fn of_three(line: &[u8], v: Vec3) -> Words {
-    if named(line, b"clamp") {
-        return float_word(float::clamp(v.x, v.y, v.z));
+fn of_three(name: &[u8], v: Vec3) -> Words {
+    match name {
+        b"clamp" => float_word(float::clamp(v.x, v.y, v.z)),
+        b"length" => float_word(v.length()),
+        b"normalize" => vector_words(v.normalize()),
+        b"frame" => {
+            let f = vector::frame(v);
+            vector_words(f.t).with_vector(f.b)
+        }
+        _ => Words::none(),
     }
-    if named(line, b"length") {
-        return float_word(v.length());
-    }
-    if named(line, b"normalize") {
-        return vector_words(v.normalize());
-    }
-    if named(line, b"frame") {
-        let f = vector::frame(v);
-        return vector_words(f.t).with_vector(f.b);
-    }
-    Words::none()
 }
 
-fn of_four(line: &[u8], v: Vec3, k: f32) -> Words {
-    if named(line, b"scaled") {
-        return vector_words(v.scaled(k));
+fn of_four(name: &[u8], v: Vec3, k: f32) -> Words {
+    match name {
+        b"scaled" => vector_words(v.scaled(k)),
+        b"over" => vector_words(v.over(k)),
+        _ => Words::none(),
     }
-    if named(line, b"over") {
-        return vector_words(v.over(k));
-    }
-    Words::none()
 }
 
-fn of_six(line: &[u8], a: Vec3, b: Vec3) -> Words {
-    if named(line, b"dot") {
-        return float_word(a.dot(b));
+fn of_six(name: &[u8], a: Vec3, b: Vec3) -> Words {
+    match name {
+        b"dot" => float_word(a.dot(b)),
+        b"cross" => vector_words(a.cross(b)),
+        b"plus" => vector_words(a.plus(b)),
+        b"minus" => vector_words(a.minus(b)),
+        b"times" => vector_words(a.times(b)),
+        _ => Words::none(),
     }
-    if named(line, b"cross") {
-        return vector_words(a.cross(b));
-    }
-    if named(line, b"plus") {
-        return vector_words(a.plus(b));
-    }
-    if named(line, b"minus") {
-        return vector_words(a.minus(b));
-    }
-    if named(line, b"times") {
-        return vector_words(a.times(b));
-    }
-    Words::none()
 }
 
 fn float_word(x: f32) -> Words {
@@ -113,11 +75,7 @@ fn float_word(x: f32) -> Words {
 
 // A whole number; the largest u32 for any that is larger.
 fn whole(n: usize) -> Words {
-    if n <= 0xffff_ffff {
-        Words::none().with(n as u32)
-    } else {
-        Words::none().with(0xffff_ffff)
-    }
+    Words::none().with(u32::try_from(n).unwrap_or(u32::MAX))
 }
 
 fn vector_words(v: Vec3) -> Words {

@@ -5,21 +5,19 @@
 
 mod answer;
 
+use replay::{Line, Replay};
 use std::io;
 
 fn main(rt: HostRuntime) -> io::Result<()> {
-    let mut text = [0u8; 524288];
-    let n = input::read_full(&rt, &mut text)?;
-    replay_lines(&rt, &text[..n])
+    replay::run(&rt, &mut Operations)
 }
 
-// Prints the answer to each line of s.
-fn replay_lines(rt: &impl Print, s: &[u8]) -> io::Result<()> {
-    let mut at = 0;
-    while at < s.len() {
-        let next = replay::line_end(s, at);
-        replay::print_words(rt, answer::to(&s[at..next]))?;
-        at = next;
+// Operations keep nothing from line to line.
+#[derive(Drop)]
+struct Operations;
+
+impl Replay for Operations {
+    fn line(&mut self, out: &mut impl io::Write, line: &Line<'_>) -> io::Result<()> {
+        writeln!(out, "{}", answer::to(line))
     }
-    Ok(())
 }

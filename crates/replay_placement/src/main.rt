@@ -3,68 +3,46 @@
 // `unread` where it knows no such question with that many operands.
 #![tactic(auto)]
 
-mod answer;
 mod show;
 
-use replay::named;
+use replay::{Line, Replay, Words};
 use std::io;
 use stored::Stored as Scene;
 use stored_placement::Stored;
 
-// The scene, and what else is stored.
-#[derive(Clone, Copy)]
-struct Held {
+fn main(rt: HostRuntime) -> io::Result<()> {
+    let scene = Scene::nothing();
+    let stored = Stored::nothing();
+    replay::run(&rt, &mut Calls { scene, stored })
+}
+
+// Calls with the scene, and with what else is stored.
+#[derive(Drop)]
+struct Calls {
     scene: Scene,
     stored: Stored,
 }
 
-fn main(rt: HostRuntime) -> io::Result<()> {
-    let mut text = [0u8; 524288];
-    let n = input::read_full(&rt, &mut text)?;
-    replay_lines(&rt, &text[..n])
-}
-
-// Stores, shows or answers each line of s.
-fn replay_lines(rt: &impl Print, s: &[u8]) -> io::Result<()> {
-    let mut held = nothing();
-    let mut at = 0;
-    while at < s.len() {
-        let next = replay::line_end(s, at);
-        held = replay_line(rt, held, &s[at..next])?;
-        at = next;
-    }
-    Ok(())
-}
-
-// Nothing is held.
-fn nothing() -> Held {
-    Held {
-        scene: Scene::nothing(),
-        stored: Stored::nothing(),
+impl Replay for Calls {
+    fn line(&mut self, out: &mut impl io::Write, line: &Line<'_>) -> io::Result<()> {
+        if self.scene.store(line) || self.stored.store(line) {
+            return Ok(());
+        }
+        match line.name {
+            b"show" => show::tables(out, &self.stored, line),
+            _ => writeln!(out, "{}", self.answer(line)),
+        }
     }
 }
 
-// What is held after a line.
-fn replay_line(rt: &impl Print, held: Held, line: &[u8]) -> io::Result<Held> {
-    let mut next = held;
-    if stored::stores(line) {
-        next.scene = held.scene.with_line(line);
-        return Ok(next);
+impl Calls {
+    // The result words of the call that a line is; none where it is no call.
+    fn answer(&mut self, line: &Line<'_>) -> Words {
+        match (line.name, line.given.len()) {
+            (b"generate", 8) => {
+                asked_placement::generate(&self.scene, &mut self.stored, line.given.padded())
+            }
+            _ => Words::none(),
+        }
     }
-    if named(line, b"show") {
-        show::print(rt, held.stored, line)?;
-        return Ok(next);
-    }
-    next.stored = after(rt, held.scene, held.stored, line)?;
-    Ok(next)
-}
-
-// What is stored after a line that stores or asks.
-fn after(rt: &impl Print, scene: Scene, stored: Stored, line: &[u8]) -> io::Result<Stored> {
-    if stored_placement::stores(line) {
-        return Ok(stored.with_line(line));
-    }
-    let asked = answer::to(scene, stored, line);
-    replay::print_words(rt, asked.words)?;
-    Ok(asked.stored)
 }

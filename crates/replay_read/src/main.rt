@@ -3,106 +3,65 @@
 // of the answer, or of a column, on a line, or `unread` where it knows no such line.
 #![tactic(auto)]
 
-mod ask;
-mod columns;
-mod show;
-
-use columns::Columns;
-use lent_file::lent_by;
-use replay::{Words, named};
+use lent_file::{Columns, Lent};
+use replay::{Line, Replay, Words, lent};
 use std::io;
 
-// What the columns hold, and how many places of each a reading is lent, in the order of its
-// parameters.
-#[derive(Clone, Copy)]
-struct Held {
-    columns: Columns,
-    lent: [u32; 16],
-}
-
-// The file is zeros at first.
+// The file is zeros at first, every place of a column holds zero, and all places are lent.
 fn main(rt: HostRuntime) -> io::Result<()> {
-    let mut lines = [0u8; 524288];
-    let mut file = [0u8; 4096];
-    let n = input::read_full(&rt, &mut lines)?;
-    replay_lines(&rt, &mut file, &lines[..n])
+    let file = vec![in rt.alloc(); 0; 4096]?;
+    let columns = Columns::marked(0);
+    let lengths = Lent::from([64; 16]);
+    replay::run(
+        &rt,
+        &mut Readings {
+            file,
+            columns,
+            lengths,
+        },
+    )
 }
 
-// Stores or answers each line of s.
-fn replay_lines(rt: &impl Print, file: &mut [u8], s: &[u8]) -> io::Result<()> {
-    let mut held = nothing();
-    let mut at = 0;
-    while at < s.len() {
-        let next = replay::line_end(s, at);
-        held = replay_line(rt, file, held, &s[at..next])?;
-        at = next;
-    }
-    Ok(())
+// Readings of the file: what the columns hold, and how many places of each a reading is lent.
+#[derive(Drop)]
+struct Readings {
+    file: Vec<u8>,
+    columns: Columns,
+    lengths: Lent,
 }
 
-// Every place holds zero, and all places are lent.
-fn nothing() -> Held {
-    Held {
-        columns: Columns::marked(0),
-        lent: [64; 16],
+impl Replay for Readings {
+    fn line(&mut self, out: &mut impl io::Write, line: &Line<'_>) -> io::Result<()> {
+        if self.store(line) {
+            return Ok(());
+        }
+        writeln!(out, "{}", self.answer(line))
     }
 }
 
-// What is held after a line.
-fn replay_line(rt: &impl Print, file: &mut [u8], held: Held, line: &[u8]) -> io::Result<Held> {
-    let given = replay::operands(line);
-    if named(line, b"clear") {
-        stored_file::clear(file);
-        return Ok(held);
+impl Readings {
+    // Stores what the line says, and answers whether it says something.
+    fn store(&mut self, line: &Line<'_>) -> bool {
+        let w = line.given.padded();
+        match line.name {
+            b"mark" => self.columns = Columns::marked(w[0]),
+            b"lend" => self.lengths = Lent::from(w),
+            _ => return stored_file::store(self.file.as_mut_slice(), line),
+        }
+        true
     }
-    if named(line, b"put") {
-        stored_file::put(file, given);
-        return Ok(held);
-    }
-    with_line(rt, file, held, line, given)
-}
 
-// What is held after a line that does not change the file.
-fn with_line(
-    rt: &impl Print,
-    file: &[u8],
-    held: Held,
-    line: &[u8],
-    given: Words,
-) -> io::Result<Held> {
-    let w = given.words;
-    let mut next = held;
-    if named(line, b"mark") {
-        next.columns = Columns::marked(w[0]);
-        return Ok(next);
-    }
-    if named(line, b"lend") {
-        next.lent = w;
-        return Ok(next);
-    }
-    if named(line, b"read") {
-        return read(rt, file, held, w[0]);
-    }
-    replay::print_words(rt, shown(held.columns, line, w))?;
-    Ok(next)
-}
-
-// What is held after the first so many bytes of the file are read.
-fn read(rt: &impl Print, file: &[u8], held: Held, length: u32) -> io::Result<Held> {
-    let lent = held.lent;
-    let left = ask::read(file, length as usize, held.columns, lent_by(lent));
-    replay::print_words(rt, left.words)?;
-    let columns = left.columns;
-    let mut next = held;
-    next.columns = columns;
-    Ok(next)
-}
-
-// Up to 16 words of a column from a place on; none where the line is no such question.
-fn shown(columns: Columns, line: &[u8], w: [u32; 16]) -> Words {
-    if named(line, b"show") {
-        show::words(columns, w[0], w[1] as usize)
-    } else {
-        Words::none()
+    // The result words of a reading of the first so many bytes of the file, more than there are meaning
+    // all; or up to 16 words of a column from a place on; none where the line asks neither.
+    fn answer(&mut self, line: &Line<'_>) -> Words {
+        let w = line.given.padded();
+        match line.name {
+            b"read" => {
+                let file = lent(self.file.as_slice(), w[0] as usize);
+                self.columns.read(file, self.lengths)
+            }
+            b"show" => self.columns.shown(w[0], w[1] as usize),
+            _ => Words::none(),
+        }
     }
 }

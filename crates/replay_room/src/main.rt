@@ -5,57 +5,39 @@
 
 mod ask;
 
-use replay::{Words, named};
+use replay::{Line, Replay, Words};
 use std::io;
 
 // The file and the text of its report are zeros at first.
 fn main(rt: HostRuntime) -> io::Result<()> {
-    let mut lines = [0u8; 524288];
-    let mut file = [0u8; 65600];
-    let mut report = [0u8; 131072];
-    let n = input::read_full(&rt, &mut lines)?;
-    replay_lines(&rt, &mut file, &mut report, &lines[..n])
+    let file = vec![in rt.alloc(); 0; 65600]?;
+    let report = vec![in rt.alloc(); 0; 131072]?;
+    replay::run(&rt, &mut Reports { file, report })
 }
 
-// Stores or answers each line of s.
-fn replay_lines(rt: &impl Print, file: &mut [u8], report: &mut [u8], s: &[u8]) -> io::Result<()> {
-    let mut at = 0;
-    while at < s.len() {
-        let next = replay::line_end(s, at);
-        replay_line(rt, file, report, &s[at..next])?;
-        at = next;
-    }
-    Ok(())
+// Reports of the file, written into a text.
+#[derive(Drop)]
+struct Reports {
+    file: Vec<u8>,
+    report: Vec<u8>,
 }
 
-// Stores or answers a line.
-fn replay_line(rt: &impl Print, file: &mut [u8], report: &mut [u8], line: &[u8]) -> io::Result<()> {
-    let given = replay::operands(line);
-    if named(line, b"clear") {
-        stored_file::clear(file);
-        return Ok(());
+impl Replay for Reports {
+    fn line(&mut self, out: &mut impl io::Write, line: &Line<'_>) -> io::Result<()> {
+        if stored_file::store(self.file.as_mut_slice(), line) {
+            return Ok(());
+        }
+        let w = line.given.padded();
+        let (length, space) = (w[0] as usize, w[1] as usize);
+        let report = self.report.as_mut_slice();
+        match line.name {
+            b"room" => ask::room(out, self.file.as_slice(), length, report),
+            b"short" => writeln!(
+                out,
+                "{}",
+                ask::short(self.file.as_slice(), length, report, space)
+            ),
+            _ => writeln!(out, "{}", Words::none()),
+        }
     }
-    if named(line, b"put") {
-        stored_file::put(file, given);
-        return Ok(());
-    }
-    answer(rt, file, report, line, given)
-}
-
-// Answers a line that asks.
-fn answer(
-    rt: &impl Print,
-    file: &[u8],
-    report: &mut [u8],
-    line: &[u8],
-    given: Words,
-) -> io::Result<()> {
-    let w = given.words;
-    if named(line, b"room") {
-        return ask::room(rt, file, w[0] as usize, report);
-    }
-    if named(line, b"short") {
-        return ask::short(rt, file, w[0] as usize, report, w[1] as usize);
-    }
-    replay::print_words(rt, Words::none())
 }

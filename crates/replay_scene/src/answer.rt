@@ -1,80 +1,76 @@
 // What a question about the stored scene answers.
 use float::of_bits;
-use replay::{Words, named, vec};
+use replay::{Line, Words, vec};
+use scene::Ray;
 use stored::Stored;
 use vector::Vec3;
 
 // The result words of the question that a line is; none where it is no question.
-pub fn to(s: Stored, line: &[u8]) -> Words {
-    let operands = replay::operands(line);
-    let w = operands.words;
-    let count = operands.count;
-    let v = vec(w[0], w[1], w[2]);
-    if count == 3 {
-        return of_point(s, line, v);
+pub fn to(s: &Stored, line: &Line<'_>) -> Words {
+    let w = line.given.padded();
+    let p = vec(w[0], w[1], w[2]);
+    match line.given.len() {
+        3 => of_point(s, line.name, p),
+        5 => of_projection(s, line.name, p, of_bits(w[3]), of_bits(w[4])),
+        7 => of_hemisphere(s, line.name, p, vec(w[3], w[4], w[5]), of_bits(w[6])),
+        8 => of_ray(s, line.name, ray(w)),
+        9 => of_light(s, line.name, ray(w), of_bits(w[8])),
+        _ => Words::none(),
     }
-    if (count == 5) & named(line, b"project") {
-        return asked::project(s, v, of_bits(w[3]), of_bits(w[4]));
-    }
-    let u = vec(w[3], w[4], w[5]);
-    if count == 7 {
-        return of_hemisphere(s, line, v, u, of_bits(w[6]));
-    }
-    if count == 8 {
-        return of_ray(s, line, v, u, of_bits(w[6]), of_bits(w[7]));
-    }
-    if count == 9 {
-        return of_light(s, line, v, u, of_bits(w[6]), of_bits(w[7]), of_bits(w[8]));
-    }
-    Words::none()
 }
 
 // Distance and material, or the normal.
-fn of_point(s: Stored, line: &[u8], p: Vec3) -> Words {
-    if named(line, b"dist_mat") {
-        return asked::dist_mat(s, p);
+fn of_point(s: &Stored, name: &[u8], p: Vec3) -> Words {
+    match name {
+        b"dist_mat" => asked::dist_mat(s, p),
+        b"dist_any" => asked::dist_any(s, p),
+        b"normal" => asked::normal(s, p),
+        b"normal_any" => asked::normal_any(s, p),
+        _ => Words::none(),
     }
-    if named(line, b"dist_any") {
-        return asked::dist_any(s, p);
+}
+
+// Where the point comes to lie on the surface.
+fn of_projection(s: &Stored, name: &[u8], p: Vec3, eps: f32, diag: f32) -> Words {
+    match name {
+        b"project" => asked::project(s, p, eps, diag),
+        _ => Words::none(),
     }
-    if named(line, b"normal") {
-        return asked::normal(s, p);
-    }
-    if named(line, b"normal_any") {
-        return asked::normal_any(s, p);
-    }
-    Words::none()
 }
 
 // How open the hemisphere is.
-fn of_hemisphere(s: Stored, line: &[u8], p: Vec3, n: Vec3, tmax: f32) -> Words {
-    if named(line, b"closure") {
-        return asked::closure(s, p, n, tmax);
+fn of_hemisphere(s: &Stored, name: &[u8], p: Vec3, n: Vec3, tmax: f32) -> Words {
+    match name {
+        b"closure" => asked::closure(s, p, n, tmax),
+        b"closure_any" => asked::closure_any(s, p, n, tmax),
+        _ => Words::none(),
     }
-    if named(line, b"closure_any") {
-        return asked::closure_any(s, p, n, tmax);
-    }
-    Words::none()
 }
 
 // What a ray meets.
-fn of_ray(s: Stored, line: &[u8], ro: Vec3, rd: Vec3, tmin: f32, tmax: f32) -> Words {
-    if named(line, b"trace") {
-        return asked::trace(s, ro, rd, tmin, tmax);
+fn of_ray(s: &Stored, name: &[u8], ray: Ray) -> Words {
+    match name {
+        b"trace" => asked::trace(s, ray),
+        b"trace_any" => asked::trace_any(s, ray),
+        _ => Words::none(),
     }
-    if named(line, b"trace_any") {
-        return asked::trace_any(s, ro, rd, tmin, tmax);
-    }
-    Words::none()
 }
 
 // How much of a light is seen.
-fn of_light(s: Stored, line: &[u8], ro: Vec3, rd: Vec3, tmin: f32, tmax: f32, k: f32) -> Words {
-    if named(line, b"soft_shadow") {
-        return asked::soft_shadow(s, ro, rd, tmin, tmax, k);
+fn of_light(s: &Stored, name: &[u8], ray: Ray, k: f32) -> Words {
+    match name {
+        b"soft_shadow" => asked::soft_shadow(s, ray, k),
+        b"shadow_any" => asked::shadow_any(s, ray, k),
+        _ => Words::none(),
     }
-    if named(line, b"shadow_any") {
-        return asked::shadow_any(s, ro, rd, tmin, tmax, k);
+}
+
+// The ray that eight words tell.
+fn ray(w: [u32; 16]) -> Ray {
+    Ray {
+        ro: vec(w[0], w[1], w[2]),
+        rd: vec(w[3], w[4], w[5]),
+        tmin: of_bits(w[6]),
+        tmax: of_bits(w[7]),
     }
-    Words::none()
 }

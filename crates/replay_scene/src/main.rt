@@ -5,32 +5,26 @@
 
 mod answer;
 
+use replay::{Line, Replay};
 use std::io;
 use stored::Stored;
 
 fn main(rt: HostRuntime) -> io::Result<()> {
-    let mut text = [0u8; 524288];
-    let n = input::read_full(&rt, &mut text)?;
-    replay_lines(&rt, &text[..n])
+    let scene = Stored::nothing();
+    replay::run(&rt, &mut Questions { scene })
 }
 
-// Stores or answers each line of s.
-fn replay_lines(rt: &impl Print, s: &[u8]) -> io::Result<()> {
-    let mut scene = Stored::nothing();
-    let mut at = 0;
-    while at < s.len() {
-        let next = replay::line_end(s, at);
-        scene = replay_line(rt, scene, &s[at..next])?;
-        at = next;
-    }
-    Ok(())
+// Questions about the scene that is stored.
+#[derive(Drop)]
+struct Questions {
+    scene: Stored,
 }
 
-// The scene after a line: with what the line stores, or unchanged where it asks.
-fn replay_line(rt: &impl Print, scene: Stored, line: &[u8]) -> io::Result<Stored> {
-    if stored::stores(line) {
-        return Ok(scene.with_line(line));
+impl Replay for Questions {
+    fn line(&mut self, out: &mut impl io::Write, line: &Line<'_>) -> io::Result<()> {
+        if self.scene.store(line) {
+            return Ok(());
+        }
+        writeln!(out, "{}", answer::to(&self.scene, line))
     }
-    replay::print_words(rt, answer::to(scene, line))?;
-    Ok(scene)
 }

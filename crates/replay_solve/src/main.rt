@@ -5,33 +5,26 @@
 
 mod answer;
 
+use replay::{Line, Replay};
 use std::io;
 use stored_room::Stored;
 
 fn main(rt: HostRuntime) -> io::Result<()> {
-    let mut text = [0u8; 524288];
-    let n = input::read_full(&rt, &mut text)?;
-    replay_lines(&rt, &text[..n])
+    let stored = Stored::nothing();
+    replay::run(&rt, &mut Questions { stored })
 }
 
-// Stores or answers each line of s.
-fn replay_lines(rt: &impl Print, s: &[u8]) -> io::Result<()> {
-    let mut stored = Stored::nothing();
-    let mut at = 0;
-    while at < s.len() {
-        let next = replay::line_end(s, at);
-        stored = replay_line(rt, stored, &s[at..next])?;
-        at = next;
-    }
-    Ok(())
+// Questions about what is stored.
+#[derive(Drop)]
+struct Questions {
+    stored: Stored,
 }
 
-// What is stored after a line.
-fn replay_line(rt: &impl Print, stored: Stored, line: &[u8]) -> io::Result<Stored> {
-    if stored_room::stores(line) {
-        return Ok(stored.with_line(line));
+impl Replay for Questions {
+    fn line(&mut self, out: &mut impl io::Write, line: &Line<'_>) -> io::Result<()> {
+        if self.stored.store(line) {
+            return Ok(());
+        }
+        writeln!(out, "{}", answer::to(&mut self.stored, line))
     }
-    let asked = answer::to(stored, line);
-    replay::print_words(rt, asked.words)?;
-    Ok(asked.stored)
 }

@@ -1,29 +1,29 @@
 -- The solve of a file that is accepted: its columns are short, it is read in full, and a reset and a solve of its room leave the light of its run. Assumes nothing.
+use Rattle.std.specs.Prelude.{Ok}
 use mathlib.Core.Bool.{true, and-eq-true_iff}
 use mathlib.Core.List.{List, [], ◌∷◌, ◌++◌}
 use mathlib.Core.Path.{◌≡◌, sym, ap, subst, ◌∙◌}
 use Prim.Native.Nat.{ℕ, ◌+◌, ◌*◌, ◌%◌, ◌≤◌}
 use native.Mathlib.Omega.{arith}
-use lib.Ieee.{Float, nan}
-use lib.ListN.{length, take, replicate, length-replicate, get_or-replicate}
+use lib.Ieee.{Float}
+use lib.ListN.{length, take, replicate, length-replicate}
 use lib.Seq.{take_at}
 use borrow.Author.Tests.{le-leb, leb-true, eq-eqb}
 use Rattle.float.specs.Arithmetic.{0f}
 use Rattle.float.specs.Column.{float_at}
-use Rattle.vector.specs.Flat.{filled}
-use Rattle.vector.proofs.Replaced.{replaced_same, filled_whole}
 use Rattle.accept.specs.Limits.{max_file, max_program_file, max_surfels, max_clusters, max_links, max_bounces, max_albedo, max_amount, max_cluster_area, max_weight}
 use Rattle.accept.specs.Ranges.{all_within, floats_within}
-use Rattle.accept.specs.Refusal.{first_failed}
+use Rattle.accept.specs.Refusal.{checked}
 use Rattle.accept.specs.Tables.{at_most, holds}
 use Rattle.accept.proofs.Bounded.{le_holds}
 use Rattle.accept.proofs.Every.{conj_each}
-use Rattle.reset.specs.declared.ResetAnswer.{ResetAnswer}
-use Rattle.reset.specs.Resetting.{reset_refusal, reset_answer}
+use Rattle.std.specs.Prelude.{Result, Ok}
+use Rattle.accept.specs.declared.refusal.Refusal.{Refusal}
+use Rattle.reset.specs.Resetting.{reset_answer}
+use Rattle.reset.specs.Resetting.{check as reset_check}
 use Rattle.transfer.specs.Room.{Room, Light, clusters_of, rows_of, room_of, light_of}
-use Rattle.transfer.specs.Checks.{counts_within, floats_fit, refusal}
+use Rattle.transfer.specs.Checks.{counts_within, floats_fit, check}
 use Rattle.transfer.proofs.Acceptance.{Answered, not_refused}
-use Rattle.solve.specs.declared.SolveAnswer.{SolveAnswer}
 use Rattle.solve.specs.declared.SolveStats.{SolveStats}
 use Rattle.solve.specs.Runs.{run}
 use Rattle.solve.specs.Answers.{run_of, solve_answer}
@@ -37,13 +37,13 @@ use Rattle.file.proofs.Entries.{floats_length, floats_in, numbers_in}
 use Rattle.file.proofs.Accepted.{solve_accepts, has_albedos, has_areas, has_directs, has_cluster_areas, has_firsts}
 use Rattle.file.proofs.Accepted.{has_member_counts, has_members, has_row_starts, has_link_clusters, has_link_weights}
 use Rattle.report.specs.Light.{start_light, run_of_file, grid_fits}
-use Rattle.report.specs.Report.{report_refusal}
+use Rattle.report.specs.Report.{report_check}
 use Rattle.report.specs.Needs.{made_by, SurfelsCut, ClustersCut, RowsCut}
 use Rattle.report.proofs.Fitting.{tests_passed, cut-length}
 
 -- ---- a file that is accepted
 
-module _ (b : List ℕ) (e : report_refusal b ≡ 0) where
+module _ (b : List ℕ) (e : report_check b ≡ Ok tt) where
   -- a solve takes its room
   taken : let c = counts_in b in Answered (room_of_file b) c.limit (3 * c.surfels) (3 * c.surfels) (3 * c.clusters)
   taken =
@@ -83,7 +83,7 @@ module _ (b : List ℕ) (e : report_refusal b ≡ 0) where
       ).1.1.0
 
 -- the run of a file that is accepted makes at most 4,096 bounces
-pub run_few : (b : List ℕ) → report_refusal b ≡ 0 → (run_of_file b).bounces ≤ max_bounces
+pub run_few : (b : List ℕ) → report_check b ≡ Ok tt → (run_of_file b).bounces ≤ max_bounces
 unfolding run_of_file
 run_few b e = let h = run_most (room_of_file b) (counts_in b).limit (start_light b) in omega (arith, h, (counts_few b e).1)
 
@@ -96,19 +96,11 @@ within_each l n lo hi h e =
     let k : length l * 1 ≡ n * 3 = omega arith in
     rw (le_holds (length l) (length l) 1 (omega arith)) (subst (λ (m : ℕ). all_within (float_at l) m lo hi ≡ true) (sym k) both.1)
 
--- a list filled with zeros is zeros
-zeros_alone : (l : List Float) (n : ℕ) → length l ≡ n → filled (λ k. 0f) n l ≡ replicate n 0f
-zeros_alone l n h =
-    let z = replicate n 0f in
-    let m = length-replicate n 0f in
-    replaced_same 1 (λ k. 0f ∷ []) (λ k. float_at z k ∷ []) n l (λ i j. ap (λ (x : Float). x ∷ []) (sym (get_or-replicate n i 0f nan j)))
-    ∙ subst (λ (k : ℕ). filled (float_at z) k l ≡ z) m (filled_whole z l nan (h ∙ sym m))
-
-module _ (b : List ℕ) (e : report_refusal b ≡ 0) where
+module _ (b : List ℕ) (e : report_check b ≡ Ok tt) where
   -- a reset to the file's light is not refused
   reset_accepts : (light : List Float) (direct irr rad : ℕ) → let n = 3 * (counts_in b).surfels in light ≡ floats_of b (directs (counts_in b)) → direct ≡ n → irr ≡ n → rad ≡ n
-      → reset_refusal light direct irr rad ≡ 0
-  unfolding reset_refusal first_failed
+      → reset_check light direct irr rad ≡ Ok tt
+  unfolding reset_check checked
   reset_accepts light direct irr rad p q s t =
       let n = (counts_in b).surfels in
       let h = (counts_few b e).0 in
@@ -126,24 +118,24 @@ module _ (b : List ℕ) (e : report_refusal b ≡ 0) where
       )
 
   -- and leaves it in direct and rad, and zeros in irr
-  reset_left_lem : (light direct irr rad : List Float) {a : ResetAnswer} {d i r : List Float} → let n = 3 * (counts_in b).surfels in
+  reset_left_lem : (light direct irr rad : List Float) {a : Result Unit Refusal} {d i r : List Float} → let n = 3 * (counts_in b).surfels in
       light ≡ floats_of b (directs (counts_in b)) → length direct ≡ n → length irr ≡ n → length rad ≡ n → (a, d, i, r) ≡ reset_answer light direct irr rad
       → (d ≡ floats_of b (directs (counts_in b))) × (i ≡ replicate n 0f) × (r ≡ floats_of b (directs (counts_in b)))
   unfolding reset_answer
   reset_left_lem light direct irr rad p q s t w =
       let h = rw (reset_accepts light (length direct) (length irr) (length rad) p q s t) at w in
-      (ap (λ x. x.1) h ∙ p, ap (λ x. x.2) h ∙ rw s (zeros_alone irr _ s), ap (λ x. x.3) h ∙ p)
+      (ap (λ x. x.1) h ∙ p, ap (λ x. x.2) h ∙ rw s, ap (λ x. x.3) h ∙ p)
 
 -- ---- the solve
 
 -- a solve that is not refused made its run
-solve_left_lem : (r : Room) (limit : ℕ) (l : Light) (s : List Float) {a : SolveAnswer} {m : Light} {t : List Float}
-    → refusal r limit (length l.irr) (length l.rad) (length s) ≡ 0 → (a, m, t) ≡ solve_answer r limit l s → run_of (made_by a) m ≡ run r limit l
+solve_left_lem : (r : Room) (limit : ℕ) (l : Light) (s : List Float) {a : Result SolveStats Refusal} {m : Light} {t : List Float}
+    → check r limit (length l.irr) (length l.rad) (length s) ≡ Ok tt → (a, m, t) ≡ solve_answer r limit l s → run_of (made_by a) m ≡ run r limit l
 unfolding solve_answer
-solve_left_lem r limit l s e p = let h = rw e at p in ap (λ (x : SolveAnswer × Light × List Float). run_of (made_by x.0) x.1) h
+solve_left_lem r limit l s e p = let h = rw e at p in ap (λ (x : Result SolveStats Refusal × Light × List Float). run_of (made_by x.0) x.1) h
 
 -- a solve of the file's room, from the light of a reset
-file_solved : (b : List ℕ) → report_refusal b ≡ 0 → (s : List Float) {a : SolveAnswer} {m : Light} {t : List Float} → length s ≡ 3 * (counts_in b).clusters
+file_solved : (b : List ℕ) → report_check b ≡ Ok tt → (s : List Float) {a : Result SolveStats Refusal} {m : Light} {t : List Float} → length s ≡ 3 * (counts_in b).clusters
     → (a, m, t) ≡ solve_answer (room_of_file b) (counts_in b).limit (start_light b) s → run_of (made_by a) m ≡ run_of_file b
 unfolding run_of_file start_light room_of_file
 file_solved b e s h p =
@@ -165,8 +157,8 @@ pub record Widened (c : Counts) (n nc members links limit : ℕ) : Type 0 where
 -- columns of the length of their need, a file read into them, a reset and a solve
 pub solved : (b : List ℕ) {c : Counts} {light direct irr rad albedo area : List Float} {cluster_area : List Float} {first count member : List ℕ} {scratch : List Float}
     {starts cluster : List ℕ} {weight : List Float} {albedo₁ area₁ light₁ clusterArea₁ : List Float} {first₁ count₁ member₁ starts₁ cluster₁ : List ℕ} {weight₁ : List Float}
-    {d i r : List Float} {a : ResetAnswer} {n nc k links limit : ℕ} {answer : SolveAnswer} {made : SolveStats} {m : Light} {t : List Float}
-    → report_refusal b ≡ 0 → c ≡ counts_in b → SurfelsCut c light direct irr rad albedo area → ClustersCut c cluster_area first count member scratch → RowsCut c starts cluster weight
+    {d i r : List Float} {a : Result Unit Refusal} {n nc k links limit : ℕ} {answer : Result SolveStats Refusal} {made : SolveStats} {m : Light} {t : List Float}
+    → report_check b ≡ Ok tt → c ≡ counts_in b → SurfelsCut c light direct irr rad albedo area → ClustersCut c cluster_area first count member scratch → RowsCut c starts cluster weight
     → (albedo₁ ≡ floats_read b (albedos c) albedo) × ((area₁ ≡ floats_read b (areas c) area) × (light₁ ≡ floats_read b (directs c) light))
     → (clusterArea₁ ≡ floats_read b (cluster_areas c) cluster_area)
     × ((first₁ ≡ numbers_read b (firsts c) first) × ((count₁ ≡ numbers_read b (member_counts c) count) × (member₁ ≡ numbers_read b (members c) member)))

@@ -1,4 +1,5 @@
 -- The lists of a file that is accepted fit the places of a program, and a list that was lent in part. Assumes nothing.
+use Rattle.std.specs.Prelude.{Ok}
 use mathlib.Core.List.{List, [], ◌∷◌, ◌++◌}
 use mathlib.Core.Path.{◌≡◌, refl, sym, ap, ◌∙◌}
 use Prim.Native.Nat.{ℕ, zero, suc, ◌+◌, ◌*◌, ◌≤◌, ◌<◌}
@@ -19,10 +20,10 @@ use Rattle.file.specs.Blocks.{counts_in, end_of}
 use Rattle.file.specs.Rooms.{box_of_file}
 use Rattle.file.proofs.Accepted.{Passed, passed, file_ends}
 use Rattle.report.specs.Light.{grid_fits, max_starts}
-use Rattle.report.specs.Report.{report_refusal}
+use Rattle.report.specs.Report.{report_check}
 use Rattle.report.specs.Needs.{GridCut, ProbesCut}
 
-module _ (b : List ℕ) (e : report_refusal b ≡ 0) where
+module _ (b : List ℕ) (e : report_check b ≡ Ok tt) where
   -- each test of the file passed
   pub tests_passed : Passed b max_program_file (grid_fits (box_of_file b))
   tests_passed = passed b max_program_file (grid_fits (box_of_file b)) e

@@ -1,4 +1,5 @@
 -- The readings of a file that is accepted: neither the build of its grid nor the reading of its probes is refused. Assumes nothing.
+use Rattle.std.specs.Prelude.{Ok}
 use mathlib.Core.Bool.{true, ◌&&◌, and-eq-true_iff}
 use mathlib.Core.List.{List, [], ◌∷◌}
 use mathlib.Core.Path.{◌≡◌, ap, ◌∙◌}
@@ -8,24 +9,25 @@ use borrow.Author.Tests.{le-leb, lt-ltb}
 use lib.Dec.{leb, ltb}
 use lib.Ieee.{Float}
 use lib.ListN.{length, replicate, length-replicate}
+use Rattle.std.specs.Prelude.{Ok, Result}
 use Rattle.vector.specs.Flat.{filled, written}
 use Rattle.accept.specs.Every.{conj}
 use Rattle.accept.specs.Limits.{max_surfels, max_program_file}
 use Rattle.accept.specs.Ranges.{coordinates}
-use Rattle.accept.specs.Refusal.{first_failed}
+use Rattle.accept.specs.Refusal.{checked}
 use Rattle.accept.specs.Tables.{at_most, holds, column}
 use Rattle.accept.proofs.Bounded.{le_holds}
 use Rattle.accept.proofs.Every.{conj_each}
-use Rattle.accept.proofs.Refused.{first_failed_past}
-use Rattle.grid.specs.declared.GridAnswer.{GridAnswer}
+use Rattle.accept.specs.declared.refusal.Refusal.{Refusal}
+use Rattle.accept.proofs.Refused.{checked_past}
+use Rattle.grid.specs.declared.Dims.{Dims}
 use Rattle.grid.specs.Answers.{grid_build_answer}
 use Rattle.grid.specs.Cells.{dims_of, cells}
-use Rattle.grid.specs.Checks.{sized, build_tests, build_refusal}
+use Rattle.grid.specs.Checks.{sized, build_tests, check_build}
 use Rattle.grid.specs.Lent.{grid_of}
 use Rattle.grid.proofs.Built.{built_refusal}
-use Rattle.surfel.specs.declared.GatherAllAnswer.{GatherAllAnswer}
 use Rattle.surfel.specs.Answers.{seen_number, seen_light, gather_all_answer}
-use Rattle.surfel.specs.Checks.{radius_within, columns_hold, points_within, probes_lent, refusal, all_refusal}
+use Rattle.surfel.specs.Checks.{radius_within, columns_hold, points_within, probes_lent, check, check_all}
 use Rattle.surfel.specs.Gathering.{surfels_of}
 use Rattle.transfer.specs.Checks.{floats_fit}
 use Rattle.file.specs.declared.Counts.{Counts}
@@ -37,7 +39,7 @@ use Rattle.file.specs.Rooms.{room_of_file, points_of_file, normals_of_file, box_
 use Rattle.file.proofs.Accepted.{has_points, has_normals, has_probe_points, has_probe_normals}
 use Rattle.file.proofs.Entries.{floats_length, floats_in}
 use Rattle.report.specs.Light.{run_of_file, grid_of_file, surfels_of_file, reading_of_file}
-use Rattle.report.specs.Report.{report_refusal}
+use Rattle.report.specs.Report.{report_check}
 use Rattle.report.specs.Needs.{GridCut, ProbesCut}
 use Rattle.report.proofs.Fitting.{tests_passed, end_fits}
 
@@ -45,7 +47,7 @@ use Rattle.report.proofs.Fitting.{tests_passed, end_fits}
 three_held : (l : List Float) (n : ℕ) → length l ≡ 3 * n → holds (length l) n 3 ≡ true
 three_held l n h = le_holds (length l) n 3 (omega arith)
 
-module _ (b : List ℕ) (e : report_refusal b ≡ 0) where
+module _ (b : List ℕ) (e : report_check b ≡ Ok tt) where
   abbrev c : Counts
   c = counts_in b
 
@@ -79,7 +81,7 @@ module _ (b : List ℕ) (e : report_refusal b ≡ 0) where
       conj_each
       (coordinates (points_of_file b) r.n
       ∷ coordinates (normals_of_file b) r.n
-      ∷ floats_fit r.n r.clusters.nc r.rows.links r.albedo r.area r.direct r.clusters.area r.rows.weight
+      ∷ floats_fit r
       ∷ coordinates q.p q.count
       ∷ coordinates q.normals q.count
       ∷ [])
@@ -107,19 +109,19 @@ module _ (b : List ℕ) (e : report_refusal b ≡ 0) where
         le-leb c.surfels (length zero_items) (omega (arith, length-replicate {A = ℕ} c.surfels 0)),
       )
 
-  build_accepts : build_refusal c.surfels (points_of_file b) x.lo x.hi x.cell (length zero_starts) (length zero_items) ≡ 0
-  unfolding build_refusal first_failed
+  build_accepts : check_build c.surfels (points_of_file b) x.lo x.hi x.cell (length zero_starts) (length zero_items) ≡ Ok tt
+  unfolding check_build checked
   build_accepts =
-      first_failed_past (build_tests c.surfels (points_of_file b) x.lo x.hi x.cell (length zero_starts) (length zero_items)) []
+      checked_past (build_tests c.surfels (points_of_file b) x.lo x.hi x.cell (length zero_starts) (length zero_items)) []
       (few_surfels, (box_passed.0, (build_lent, (all_within_lem.points_passed, tt))))
 
-  built_lists : {r : GridAnswer} {starts items : List ℕ}
+  built_lists : {r : Result Dims Refusal} {starts items : List ℕ}
       → (r, starts, items) ≡ grid_build_answer c.surfels (points_of_file b) x.lo x.hi x.cell zero_starts zero_items
       → (starts ≡ (grid_of_file b).starts) × (items ≡ (grid_of_file b).items)
   unfolding grid_build_answer grid_of_file
   built_lists h =
       let k = rw build_accepts at h in
-      (ap (λ (t : GridAnswer × List ℕ × List ℕ). t.1) k, ap (λ (t : GridAnswer × List ℕ × List ℕ). t.2) k)
+      (ap (λ (t : Result Dims Refusal × List ℕ × List ℕ). t.1) k, ap (λ (t : Result Dims Refusal × List ℕ × List ℕ). t.2) k)
 
   -- ---- the readings
 
@@ -152,27 +154,27 @@ module _ (b : List ℕ) (e : report_refusal b ≡ 0) where
     unfolding probes_of_file
     probes_within = rw (all_within_lem.probes_passed, all_within_lem.facing_passed)
 
-    gather_accepts : all_refusal (grid_of_file b) (surfels_of_file b) (probes_of_file b) (length seen) (length light) ≡ 0
-    unfolding refusal grid_of_file probes_of_file first_failed
+    gather_accepts : check_all (grid_of_file b) (surfels_of_file b) (probes_of_file b) (length seen) (length light) ≡ Ok tt
+    unfolding check grid_of_file probes_of_file checked
     gather_accepts =
         rw (columns_held, probes_held, points_held, probes_within)
         (built_refusal c.surfels (points_of_file b) x.lo x.hi x.cell zero_starts zero_items _ _ true true build_accepts
         ∙ rw (few_probes, box_passed.1))
 
-    gathered_lists : {r : GatherAllAnswer} {numbers : List ℕ} {floats : List Float}
+    gathered_lists : {r : Result Unit Refusal} {numbers : List ℕ} {floats : List Float}
         → (r, numbers, floats) ≡ gather_all_answer (grid_of_file b) (surfels_of_file b) (probes_of_file b) seen light
         → (numbers ≡ filled (λ i. seen_number (reading_of_file b i)) c.probes seen) × (floats ≡ written (λ i. seen_light (reading_of_file b i)) c.probes light)
     unfolding gather_all_answer reading_of_file probes_of_file
     gathered_lists h =
         let k = rw gather_accepts at h in
-        (ap (λ (t : GatherAllAnswer × List ℕ × List Float). t.1) k, ap (λ (t : GatherAllAnswer × List ℕ × List Float). t.2) k)
+        (ap (λ (t : Result Unit Refusal × List ℕ × List Float). t.1) k, ap (λ (t : Result Unit Refusal × List ℕ × List Float). t.2) k)
 
 -- ---- what is read, built and gathered one after the other, in lists of their need
 
-module _ (b : List ℕ) (e : report_refusal b ≡ 0) {k : Counts} {y : ProbeBox} {irr p₀ normals₀ probes₀ facing₀ light₀ : List Float} {starts₀ items₀ seen₀ : List ℕ}
+module _ (b : List ℕ) (e : report_check b ≡ Ok tt) {k : Counts} {y : ProbeBox} {irr p₀ normals₀ probes₀ facing₀ light₀ : List Float} {starts₀ items₀ seen₀ : List ℕ}
     (counts : k ≡ counts_in b) (box : y ≡ box_of_file b) (solved : irr ≡ (run_of_file b).light.irr) (gridded : GridCut k y irr p₀ normals₀ starts₀ items₀)
     (probed : ProbesCut k probes₀ facing₀ seen₀ light₀) where
-  pub gathered : {n count : ℕ} {p facing probes probes_facing light : List Float} {starts items seen : List ℕ} {r : GridAnswer} {s : GatherAllAnswer}
+  pub gathered : {n count : ℕ} {p facing probes probes_facing light : List Float} {starts items seen : List ℕ} {r : Result Dims Refusal} {s : Result Unit Refusal}
       → n ≡ k.surfels → count ≡ k.probes
       → p ≡ floats_read b (points k) p₀ → facing ≡ floats_read b (normals k) normals₀
       → probes ≡ floats_read b (probe_points k) probes₀ → probes_facing ≡ floats_read b (probe_normals k) facing₀

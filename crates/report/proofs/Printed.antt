@@ -1,5 +1,8 @@
 -- The two reports that there are, and that each fits into the bytes that a report needs at most. Assumes nothing.
-use mathlib.Core.Bool.{Bool, true, false}
+use Rattle.std.specs.Prelude.{Result, Ok, Err, Some, None}
+use Rattle.accept.specs.Refusal.{number_of}
+use Rattle.accept.specs.declared.refusal.Refusal.{Refusal}
+use mathlib.Core.Bool.{cond}
 use mathlib.Core.List.{List, ◌++◌}
 use mathlib.Core.Path.{◌≡◌, refl, sym, ap}
 use Prim.Native.Nat.{ℕ, ◌+◌, ◌≤◌}
@@ -8,7 +11,6 @@ use lib.Dec.{eqb}
 use lib.Ieee.{Float}
 use lib.ListN.{length, drop, replicate, length-append}
 use lib.Seq.{sets}
-use borrow.Author.Tests.{eqb-true, eqb-false, ne_eqb}
 use Rattle.float.specs.Arithmetic.{0f}
 use Rattle.vector.specs.Flat.{rows, filled, written}
 use Rattle.vector.proofs.Stored.{sets_front, sets_front_append}
@@ -22,20 +24,20 @@ use Rattle.file.proofs.Accepted.{passed, file_ends}
 use Rattle.lines.specs.Lines.{refused_line}
 use Rattle.lines.proofs.Widths.{counts_width, bounces_width, probe_width, refused_width}
 use Rattle.report.specs.Light.{grid_fits, run_of_file, reading_of_file}
-use Rattle.report.specs.Report.{reading_line, head_lines, lines_of, report, report_refusal, max_report}
+use Rattle.report.specs.Report.{reading_line, head_lines, lines_of, report, report_check, max_report}
 use Rattle.report.proofs.Texts.{line_at, rows_within, lines_read, reading_line_lem}
 
 -- the report on a file that is accepted is its lines, and on any other the number that refuses it
-pub report_lines : (b : List ℕ) → report_refusal b ≡ 0 → report b ≡ lines_of b
+pub report_lines : (b : List ℕ) → report_check b ≡ Ok tt → report b ≡ lines_of b
 unfolding report
 report_lines b e = rw e
 
-pub report_refused : (b : List ℕ) → (report_refusal b ≡ 0 → ⊥) → report b ≡ refused_line (report_refusal b)
+pub report_refused : (b : List ℕ) (r : Refusal) → report_check b ≡ Err r → report b ≡ refused_line (number_of r)
 unfolding report
-report_refused b h = rw (ne_eqb (report_refusal b) 0 h)
+report_refused b r e = rw e
 
 -- a file that is accepted has at most 2,726 probes, of 24 bytes each
-pub probes_few : (b : List ℕ) → report_refusal b ≡ 0 → (counts_in b).probes ≤ 2726
+pub probes_few : (b : List ℕ) → report_check b ≡ Ok tt → (counts_in b).probes ≤ 2726
 probes_few b e =
     let p = passed b max_program_file (grid_fits (box_of_file b)) e in
     omega (arith, file_ends b max_program_file p.formed_passed)
@@ -48,23 +50,23 @@ head_width c bounces change =
     (omega (arith, counts_width c.surfels c.clusters c.links, bounces_width bounces change (settled bounces change)))
 
 -- and those of the probes, of at most 45 bytes each
-pub lines_fit : (b : List ℕ) → report_refusal b ≡ 0 → length (lines_of b) ≤ max_report
+pub lines_fit : (b : List ℕ) → report_check b ≡ Ok tt → length (lines_of b) ≤ max_report
 unfolding lines_of
 lines_fit b e =
     let n = probes_few b e in
     let q = run_of_file b in
     let h = head_width (counts_in b) q.bounces q.last in
     let w = rows_within (λ i. reading_line i (reading_of_file b i)) 45 (counts_in b).probes
-    (λ i k. let r = reading_of_file b i in rw (← reading_line_lem i r) (probe_width i (eqb (seen_number r) 1) (seen_light r) (omega arith))) in
+    (λ i k. let r = reading_of_file b i in rw (← reading_line_lem i r) (probe_width i (cond (eqb (seen_number r) 1) (Some (seen_light r)) None) (omega arith))) in
     rw length-append (omega arith)
 
 -- a report is never longer than its need
 pub report_fits : (b : List ℕ) → length (report b) ≤ max_report
-report_fits b = by (eqb (report_refusal b) 0) refl
+report_fits b = by (report_check b) refl
   where
-    by : (t : Bool) → eqb (report_refusal b) 0 ≡ t → length (report b) ≤ max_report
-    by true e = rw (report_lines b (eqb-true (report_refusal b) 0 e)) (lines_fit b (eqb-true (report_refusal b) 0 e))
-    by false e = rw (report_refused b (eqb-false (report_refusal b) 0 e)) (omega (arith, refused_width (report_refusal b)))
+    by : (t : Result Unit Refusal) → report_check b ≡ t → length (report b) ≤ max_report
+    by (Ok u) e = rw (report_lines b e) (lines_fit b e)
+    by (Err r) e = rw (report_refused b r e) (omega (arith, refused_width (number_of r)))
 
 -- ---- a report that was written
 

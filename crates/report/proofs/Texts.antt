@@ -8,17 +8,18 @@ use lib.Dec.{eqb}
 use lib.Ieee.{Float}
 use lib.ListN.{length, replicate, length-append, length-replicate}
 use lib.Seq.{sets}
-use Rattle.vector.specs.Flat.{vec_at, rows, filled, written}
+use Rattle.vector.specs.Flat.{rows, filled, written}
 use Rattle.vector.proofs.Replaced.{rows_same, length_filled, at_filled, at_written}
 use Rattle.vector.proofs.Stored.{sets_append, rows_more}
-use Rattle.accept.specs.Tables.{number_at}
 use Rattle.surfel.specs.Answers.{seen_number, seen_light}
 use Rattle.surfel.specs.declared.Reading.{Reading}
 use Rattle.surfel.specs.declared.Reading.TheVariants.{Seen, Unseen}
 use Rattle.lines.specs.declared.Line.{Line}
 use Rattle.lines.specs.Lines.{probe_line, line_of}
 use Rattle.lines.proofs.Widths.{line_text, line_length_lem, probe_short}
-use Rattle.report.specs.Needs.{Lined, text_of}
+use Rattle.report.specs.Needs.{Lined, text_of, seen_in}
+use mathlib.Core.Bool.{cond}
+use Rattle.std.specs.Prelude.{Some, None}
 use Rattle.report.specs.Report.{reading_line}
 
 -- ---- a line that was made
@@ -53,7 +54,7 @@ two_stored t u h j text p q f s v w =
 
 -- the line of probe i, by what was written of the readings
 abbrev pub line_at : List ℕ → List Float → ℕ → List ℕ
-line_at seen light i = probe_line i (eqb (number_at seen i) 1) (vec_at light i)
+line_at seen light i = probe_line i (seen_in seen light i)
 
 -- rows of at most w elements
 pub rows_within : {A : Type 0} (f : ℕ → List A) (w n : ℕ) → ((i : ℕ) → i < n → length (f i) ≤ w) → length (rows f n) ≤ w * n
@@ -64,7 +65,7 @@ rows_within f w (suc n) h =
 
 -- n lines take at most 64 bytes each
 pub lines_within : (seen : List ℕ) (light : List Float) (n : ℕ) → length (rows (line_at seen light) n) ≤ 64 * n
-lines_within seen light n = rows_within (line_at seen light) 64 n (λ i h. probe_short i (eqb (number_at seen i) 1) (vec_at light i))
+lines_within seen light n = rows_within (line_at seen light) 64 n (λ i h. probe_short i (seen_in seen light i))
 
 -- one line more
 pub probe_stored : (seen : List ℕ) (light : List Float) (i : ℕ) (text : List ℕ) (at : ℕ) {l : Line} {d e : List ℕ} {k r : ℕ}
@@ -73,14 +74,14 @@ pub probe_stored : (seen : List ℕ) (light : List Float) (i : ℕ) (text : List
     → (e ≡ sets text at (rows (line_at seen light) (i + 1))) × (r ≡ at + length (rows (line_at seen light) (i + 1)))
 probe_stored seen light i text at q p f s u =
     rw (rows_more (line_at seen light) i)
-    (line_stored (line_at seen light i) (probe_short i (eqb (number_at seen i) 1) (vec_at light i)) text (rows (line_at seen light) i) at q p f s u)
+    (line_stored (line_at seen light i) (probe_short i (seen_in seen light i)) text (rows (line_at seen light) i) at q p f s u)
 
 -- numbers written into m zeros leave m places
 pub places_kept : (g : ℕ → ℕ) (n m : ℕ) {l : List ℕ} → n ≤ m → l ≡ filled g n (replicate m 0) → length l ≡ m
 places_kept g n m h e = let r = length-replicate {A = ℕ} m 0 in rw (e, length_filled g n (replicate m 0) (omega arith)) r
 
 -- what is written of a reading gives its line
-pub reading_line_lem : (i : ℕ) (r : Reading) → probe_line i (eqb (seen_number r) 1) (seen_light r) ≡ reading_line i r
+pub reading_line_lem : (i : ℕ) (r : Reading) → probe_line i (cond (eqb (seen_number r) 1) (Some (seen_light r)) None) ≡ reading_line i r
 reading_line_lem i (Seen light) = refl
 reading_line_lem i Unseen = refl
 

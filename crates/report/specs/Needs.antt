@@ -1,18 +1,20 @@
 -- What the functions beneath the entry ask of each other. Definitions only.
-use Rattle.std.specs.Prelude.{List, ◌≡◌, ℕ, ◌+◌, ◌*◌, ◌≤◌, Float, length, take, replicate}
+use Rattle.std.specs.Prelude.{List, ◌≡◌, ℕ, ◌+◌, ◌*◌, ◌≤◌, Float, length, take, replicate, Result, Ok, Err, cond, eqb, Option, Some, None}
+use Rattle.accept.specs.Tables.{number_at}
+use Rattle.vector.specs.declared.Vec3.{Vec3}
+use Rattle.vector.specs.Flat.{vec_at}
 use Rattle.float.specs.Arithmetic.{0f}
 use Rattle.grid.specs.Cells.{dims_of, cells}
-use Rattle.solve.specs.declared.SolveAnswer.{SolveAnswer}
-use Rattle.solve.specs.declared.SolveAnswer.TheVariants.{Refused, Done}
+use Rattle.accept.specs.declared.refusal.Refusal.{Refusal}
 use Rattle.solve.specs.declared.SolveStats.{SolveStats}
 use Rattle.lines.specs.declared.Line.{Line}
 use Rattle.file.specs.declared.Counts.{Counts}
 use Rattle.file.specs.declared.ProbeBox.{ProbeBox}
 
 -- what a solve made; nothing where it was refused
-abbrev pub made_by : SolveAnswer → SolveStats
-made_by (Refused number) = record { bounces = 0; change = 0f }
-made_by (Done made) = made
+abbrev pub made_by : Result SolveStats Refusal → SolveStats
+made_by (Err refusal) = record { bounces = 0; change = 0f }
+made_by (Ok made) = made
 
 -- columns of the length of their need: of the surfels
 pub record SurfelsCut (c : Counts) (light direct irr rad albedo area : List Float) : Type 0 where
@@ -59,3 +61,7 @@ text_of l = take l.count l.bytes
 -- a line has no more bytes than its places
 abbrev pub Lined : Line → Type 0
 Lined l = (l.count ≤ 64) × (length l.bytes ≡ 64)
+
+-- the light that is seen at probe i, by what was written of the readings
+abbrev pub seen_in : List ℕ → List Float → ℕ → Option Vec3
+seen_in seen light i = cond (eqb (number_at seen i) 1) (Some (vec_at light i)) None

@@ -1,17 +1,15 @@
 // The report on a room file.
-ghost use Rattle.std.specs.Prelude.{◌≡◌, ◌≤◌, ◌++◌, length, drop};
+ghost use Rattle.std.specs.Prelude.{◌≡◌, ◌≤◌, ◌++◌, length, drop, Ok};
 ghost use Rattle.std.proofs.lemmas.List.Edits.{sets};
 ghost use Rattle.report.specs.Light.{grid_fits};
-ghost use Rattle.report.specs.Report.{lines_of, report, report_refusal, max_report, report_answer};
+ghost use Rattle.report.specs.Report.{lines_of, report, report_check, max_report, report_answer};
 
-use crate::ReportAnswer;
 use crate::probing::read_file;
 use crate::solving::solve_file;
 use crate::writing::{put_head, put_line, put_probes};
 use accept::limits::MAX_PROGRAM_FILE;
-use accept::wide;
-use file::ProbeBox;
-use grid::cells;
+use accept::{Refusal, require, wide};
+use file::{ProbeBox, RoomFile};
 
 // Bytes that a report needs at most.
 pub const MAX_REPORT: usize = 131_072;
@@ -20,15 +18,14 @@ pub const MAX_REPORT: usize = 131_072;
 const MAX_STARTS: usize = 16_384;
 
 // Writes what `roomlight` prints of the file to the front of text, and answers how many bytes it is;
-// or refuses with 4, and then writes nothing, where text is shorter than MAX_REPORT. The number that
-// refuses a file is in the text. The call works in local arrays, on some MB of stack.
-pub fn room_report(bytes: &[u8], text: &mut [u8]) -> ReportAnswer
+// or refuses with `Length`, and then writes nothing, where text is shorter than MAX_REPORT. The number
+// that refuses a file is in the text. The call works in local arrays, on some MB of stack.
+#[tactic(auto, unfolding(crate::specs::Report::report_answer, accept::specs::Refusal::checked))]
+pub fn room_report(bytes: &[u8], text: &mut [u8]) -> Result<usize, Refusal>
     ensures { (result, text.new) ≡ report_answer bytes.now text.old }
 {
-    if text.len() < MAX_REPORT {
-        return ReportAnswer::Refused(4);
-    }
-    ReportAnswer::Done(write_report(bytes, text))
+    require(MAX_REPORT <= text.len(), Refusal::Length)?;
+    Ok(write_report(bytes, text))
 }
 
 // Writes the lines of a file, or that it is refused; how many bytes that is.
@@ -37,25 +34,24 @@ fn write_report(bytes: &[u8], text: &mut [u8]) -> usize
     ensures text_after { text.new ≡ report bytes.now ++ drop (length (report bytes.now)) text.old }
     ensures value { result ≡ length (report bytes.now) }
 {
-    let fits = grid_fits(file::probe_box(bytes));
-    let number = file::refusal(bytes, MAX_PROGRAM_FILE, fits);
-    if number == 0 {
-        write_lines(bytes, text)
-    } else {
-        put_line(text, 0, lines::refused(number))
+    let file = RoomFile::new(bytes);
+    let fits = grid_fits(file.probe_box());
+    match file.check(MAX_PROGRAM_FILE, fits) {
+        Ok(()) => write_lines(&file, text),
+        Err(refusal) => put_line(text, 0, lines::refused(u32::from(refusal))),
     }
 }
 
 // Writes the lines of a file that is accepted; how many bytes they are.
-fn write_lines(bytes: &[u8], text: &mut [u8]) -> usize
-    requires { report_refusal bytes.now ≡ 0 }
-    ensures text_after { text.new ≡ sets text.old 0 (lines_of bytes.now) }
-    ensures value { result ≡ length (lines_of bytes.now) }
+fn write_lines(file: &RoomFile, text: &mut [u8]) -> usize
+    requires { report_check file.now ≡ Ok tt }
+    ensures text_after { text.new ≡ sets text.old 0 (lines_of file.now) }
+    ensures value { result ≡ length (lines_of file.now) }
 {
-    let c = file::counts_in(bytes);
-    let made = solve_file(bytes, c);
+    let c = file.counts();
+    let made = solve_file(file);
     let irr = made.irr;
-    let readings = read_file(bytes, c, file::probe_box(bytes), irr);
+    let readings = read_file(file, irr);
     let seen = readings.seen;
     let light = readings.light;
     let at = put_head(text, c, made.bounces, made.change);
@@ -66,5 +62,5 @@ fn write_lines(bytes: &[u8], text: &mut [u8]) -> usize
 fn grid_fits(x: ProbeBox) -> bool
     ensures { result ≡ grid_fits x }
 {
-    cells(x.lo, x.hi, x.cell) < MAX_STARTS
+    x.space().cells() < MAX_STARTS
 }

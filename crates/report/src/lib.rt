@@ -11,13 +11,6 @@ mod writing;
 
 pub use entries::{MAX_REPORT, room_report};
 
-// What a report answers: refused with a number, or done, with how many bytes the text has.
-#[derive(Clone, Copy)]
-pub enum ReportAnswer {
-    Refused(u32),
-    Done(usize),
-}
-
 // What the solve of a file's room left: the bounces, the last change, and irr, three floats a
 // surfel.
 #[derive(Clone, Copy)]
@@ -28,6 +21,8 @@ struct Solved {
 }
 
 // The readings at the probes of a file: 1 where light is seen and 0 where it is not, and the light.
+//
+// Kept: two arrays, since `gather_all`, whose slices C lends, writes them so.
 #[derive(Clone, Copy)]
 struct Readings {
     seen: [u32; 16384],

@@ -1,33 +1,33 @@
 // The readings at a file's probes, in columns of the length of their need.
-ghost use Rattle.std.specs.Prelude.{◌≡◌, ◌*◌, ◌≤◌, take, replicate};
+ghost use Rattle.std.specs.Prelude.{◌≡◌, ◌*◌, take, replicate, Ok};
 ghost use Rattle.float.specs.Arithmetic.{0f};
 ghost use Rattle.vector.specs.Flat.{filled, written};
 ghost use Rattle.surfel.specs.Answers.{seen_number, seen_light};
-ghost use Rattle.file.specs.Blocks.{counts_in, end_of};
+ghost use Rattle.file.specs.Blocks.{counts_in};
 ghost use Rattle.file.specs.Rooms.{box_of_file};
 ghost use Rattle.report.specs.Light.{run_of_file, reading_of_file};
-ghost use Rattle.report.specs.Report.{report_refusal};
+ghost use Rattle.report.specs.Report.{report_check};
 ghost use Rattle.report.specs.Needs.{GridCut, ProbesCut};
 
 use crate::Readings;
 use accept::wide;
-use file::{Counts, ProbeBox};
-use grid::{cells, grid_build};
-use surfel::gather_all;
+use file::RoomFile;
+use grid::{Grid, grid_build};
+use surfel::{Probes, Surfels, gather_all};
 
 // The readings at the probes of a file that is accepted, with the irr that its solve left.
-pub fn read_file(bytes: &[u8], c: Counts, x: ProbeBox, irr: [f32; 16384]) -> Readings
-    requires bytes_value { report_refusal bytes.now ≡ 0 }
-    requires c_value { c ≡ counts_in bytes.now }
-    requires c_bound { end_of c ≤ 16384 }
-    requires x_value { x ≡ box_of_file bytes.now }
-    requires irr_value { take (3 * c.surfels) irr ≡ (run_of_file bytes.now).light.irr }
-    ensures seen_value { result.seen ≡ filled (λ i. seen_number (reading_of_file bytes.now i)) c.probes (replicate 16384 0) }
-    ensures light_value { result.light ≡ written (λ i. seen_light (reading_of_file bytes.now i)) c.probes (replicate 16384 0f) }
+#[tactic(auto, using(crate::proofs::Fitting::counts_short))]
+pub fn read_file(file: &RoomFile, irr: [f32; 16384]) -> Readings
+    requires accepted { report_check file.now ≡ Ok tt }
+    requires irr_value { take (3 * (counts_in file.now).surfels) irr ≡ (run_of_file file.now).light.irr }
+    ensures seen_value { result.seen ≡ filled (λ i. seen_number (reading_of_file file.now i)) (counts_in file.now).probes (replicate 16384 0) }
+    ensures light_value { result.light ≡ written (λ i. seen_light (reading_of_file file.now i)) (counts_in file.now).probes (replicate 16384 0f) }
 {
+    let c = file.counts();
+    let x = file.probe_box();
     let n = wide(c.surfels);
     let probes = wide(c.probes);
-    let places = cells(x.lo, x.hi, x.cell) + 1;
+    let places = x.space().cells() + 1;
     let mut p = [0.0; 16384];
     let mut normals = [0.0; 16384];
     let mut starts = [0u32; 16384];
@@ -37,9 +37,7 @@ pub fn read_file(bytes: &[u8], c: Counts, x: ProbeBox, irr: [f32; 16384]) -> Rea
     let mut seen = [0u32; 16384];
     let mut light = [0.0; 16384];
     read_in(
-        bytes,
-        c,
-        x,
+        file,
         &irr[..3 * n],
         &mut p[..3 * n],
         &mut normals[..3 * n],
@@ -56,9 +54,7 @@ pub fn read_file(bytes: &[u8], c: Counts, x: ProbeBox, irr: [f32; 16384]) -> Rea
 // The readings in these columns, all of the length of their need, those of the grid zeros. Neither the
 // grid nor the readings are refused, since the file is accepted.
 fn read_in(
-    bytes: &[u8],
-    c: Counts,
-    x: ProbeBox,
+    file: &RoomFile,
     irr: &[f32],
     p: &mut [f32],
     normals: &mut [f32],
@@ -69,34 +65,32 @@ fn read_in(
     seen: &mut [u32],
     light: &mut [f32],
 )
-    requires bytes_value { report_refusal bytes.now ≡ 0 }
-    requires c_value { c ≡ counts_in bytes.now }
-    requires x_value { x ≡ box_of_file bytes.now }
-    requires irr_value { irr.now ≡ (run_of_file bytes.now).light.irr }
-    requires grid_cut { GridCut c x irr.now p.old normals.old starts.old items.old }
-    requires probes_cut { ProbesCut c probe_p.old probe_normals.old seen.old light.old }
-    ensures seen_after { seen.new ≡ filled (λ i. seen_number (reading_of_file bytes.now i)) c.probes seen.old }
-    ensures light_after { light.new ≡ written (λ i. seen_light (reading_of_file bytes.now i)) c.probes light.old }
+    requires accepted { report_check file.now ≡ Ok tt }
+    requires irr_value { irr.now ≡ (run_of_file file.now).light.irr }
+    requires grid_cut { GridCut (counts_in file.now) (box_of_file file.now) irr.now p.old normals.old starts.old items.old }
+    requires probes_cut { ProbesCut (counts_in file.now) probe_p.old probe_normals.old seen.old light.old }
+    ensures seen_after { seen.new ≡ filled (λ i. seen_number (reading_of_file file.now i)) (counts_in file.now).probes seen.old }
+    ensures light_after { light.new ≡ written (λ i. seen_light (reading_of_file file.now i)) (counts_in file.now).probes light.old }
 {
+    let c = file.counts();
+    let x = file.probe_box();
     let n = wide(c.surfels);
-    file::read_points(bytes, c, p, normals);
-    file::read_probes(bytes, c, probe_p, probe_normals);
-    grid_build(n, p, x.lo, x.hi, x.cell, starts, items);
-    gather_all(
+    file.read_points(p, normals);
+    file.read_probes(probe_p, probe_normals);
+    let space = x.space();
+    let _ = grid_build(n, p, space, starts, items);
+    let grid = Grid {
         n,
         starts,
         items,
-        x.lo,
-        x.hi,
-        x.cell,
-        p,
-        normals,
-        irr,
-        wide(c.probes),
-        probe_p,
-        probe_normals,
-        x.radius,
-        seen,
-        light,
-    );
+        space,
+    };
+    let surfels = Surfels { p, normals, irr };
+    let probes = Probes {
+        count: wide(c.probes),
+        p: probe_p,
+        normals: probe_normals,
+        radius: x.radius,
+    };
+    let _ = gather_all(&grid, &surfels, &probes, seen, light);
 }

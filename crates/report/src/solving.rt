@@ -1,27 +1,28 @@
 // The solve of a file's room, in columns of the length of their need.
-ghost use Rattle.std.specs.Prelude.{◌≡◌, ◌*◌, ◌≤◌, take};
+ghost use Rattle.std.specs.Prelude.{◌≡◌, ◌*◌, take, Ok};
 ghost use Rattle.transfer.specs.Room.{light_out};
 ghost use Rattle.solve.specs.Answers.{run_of};
-ghost use Rattle.file.specs.Blocks.{counts_in, end_of};
+ghost use Rattle.file.specs.Blocks.{counts_in};
 ghost use Rattle.report.specs.Light.{run_of_file};
-ghost use Rattle.report.specs.Report.{report_refusal};
+ghost use Rattle.report.specs.Report.{report_check};
 ghost use Rattle.report.specs.Needs.{made_by, SurfelsCut, ClustersCut, RowsCut};
 
 use crate::Solved;
-use accept::wide;
-use file::Counts;
+use accept::{Refusal, wide};
+use file::RoomFile;
 use reset::reset;
-use solve::{SolveAnswer, SolveStats, solve};
+use solve::{SolveStats, solve};
+use transfer::{Clusters, Room, Rows};
 
 // The solve of the room in a file that is accepted.
-pub fn solve_file(bytes: &[u8], c: Counts) -> Solved
-    requires bytes_value { report_refusal bytes.now ≡ 0 }
-    requires c_value { c ≡ counts_in bytes.now }
-    requires c_bound { end_of c ≤ 16384 }
-    ensures bounces_value { result.bounces ≡ (run_of_file bytes.now).bounces }
-    ensures change_value { result.change ≡ (run_of_file bytes.now).last }
-    ensures irr_value { take (3 * c.surfels) result.irr ≡ (run_of_file bytes.now).light.irr }
+#[tactic(auto, using(crate::proofs::Fitting::counts_short))]
+pub fn solve_file(file: &RoomFile) -> Solved
+    requires { report_check file.now ≡ Ok tt }
+    ensures bounces_value { result.bounces ≡ (run_of_file file.now).bounces }
+    ensures change_value { result.change ≡ (run_of_file file.now).last }
+    ensures irr_value { take (3 * (counts_in file.now).surfels) result.irr ≡ (run_of_file file.now).light.irr }
 {
+    let c = file.counts();
     let n = wide(c.surfels);
     let nc = wide(c.clusters);
     let links = wide(c.links);
@@ -41,8 +42,7 @@ pub fn solve_file(bytes: &[u8], c: Counts) -> Solved
     let mut cluster = [0u32; 16384];
     let mut weight = [0.0; 16384];
     let made = solve_in(
-        bytes,
-        c,
+        file,
         &mut light[..3 * n],
         &mut direct[..3 * n],
         &mut irr[..3 * n],
@@ -67,65 +67,67 @@ pub fn solve_file(bytes: &[u8], c: Counts) -> Solved
 
 // The solve in these columns, all of the length of their need. Neither the reset nor the solve is
 // refused, since the file is accepted.
-fn solve_in(
-    bytes: &[u8],
-    c: Counts,
+//
+// Kept: each column is a slice of its own, since it is written first and lent as part of a room then.
+fn solve_in<'a>(
+    file: &RoomFile,
     light: &mut [f32],
-    direct: &mut [f32],
+    direct: &'a mut [f32],
     irr: &mut [f32],
     rad: &mut [f32],
-    albedo: &mut [f32],
-    area: &mut [f32],
-    cluster_area: &mut [f32],
-    first: &mut [u32],
-    count: &mut [u32],
-    member: &mut [u32],
+    albedo: &'a mut [f32],
+    area: &'a mut [f32],
+    cluster_area: &'a mut [f32],
+    first: &'a mut [u32],
+    count: &'a mut [u32],
+    member: &'a mut [u32],
     scratch: &mut [f32],
-    starts: &mut [u32],
-    cluster: &mut [u32],
-    weight: &mut [f32],
+    starts: &'a mut [u32],
+    cluster: &'a mut [u32],
+    weight: &'a mut [f32],
 ) -> SolveStats
-    requires bytes_value { report_refusal bytes.now ≡ 0 }
-    requires c_value { c ≡ counts_in bytes.now }
-    requires surfels_cut { SurfelsCut c light.old direct.old irr.old rad.old albedo.old area.old }
-    requires clusters_cut { ClustersCut c cluster_area.old first.old count.old member.old scratch.old }
-    requires rows_cut { RowsCut c starts.old cluster.old weight.old }
-    ensures { run_of result (light_out irr rad) ≡ run_of_file bytes.now }
+    requires accepted { report_check file.now ≡ Ok tt }
+    requires surfels_cut { SurfelsCut (counts_in file.now) light.old direct.old irr.old rad.old albedo.old area.old }
+    requires clusters_cut { ClustersCut (counts_in file.now) cluster_area.old first.old count.old member.old scratch.old }
+    requires rows_cut { RowsCut (counts_in file.now) starts.old cluster.old weight.old }
+    ensures { run_of result (light_out irr rad) ≡ run_of_file file.now }
 {
-    file::read_surfaces(bytes, c, albedo, area, light);
-    file::read_clusters(bytes, c, cluster_area, first, count, member);
-    file::read_rows(bytes, c, starts, cluster, weight);
-    reset(light, direct, irr, rad);
-    let answer = solve(
-        wide(c.surfels),
-        wide(c.clusters),
-        wide(c.members),
-        wide(c.links),
-        wide(c.limit),
+    let c = file.counts();
+    file.read_surfaces(albedo, area, light);
+    file.read_clusters(cluster_area, first, count, member);
+    file.read_rows(starts, cluster, weight);
+    let _ = reset(light, direct, irr, rad);
+    let room = Room {
+        n: wide(c.surfels),
         albedo,
         area,
         direct,
-        cluster_area,
-        first,
-        count,
-        member,
-        starts,
-        cluster,
-        weight,
-        irr,
-        rad,
-        scratch,
-    );
+        clusters: Clusters {
+            nc: wide(c.clusters),
+            members: wide(c.members),
+            area: cluster_area,
+            first,
+            count,
+            member,
+        },
+        rows: Rows {
+            links: wide(c.links),
+            starts,
+            cluster,
+            weight,
+        },
+    };
+    let answer = solve(&room, wide(c.limit), irr, rad, scratch);
     made_by(answer)
 }
 
 // What a solve made; nothing where it was refused.
-fn made_by(answer: SolveAnswer) -> SolveStats
+fn made_by(answer: Result<SolveStats, Refusal>) -> SolveStats
     ensures { result ≡ made_by answer }
 {
     match answer {
-        SolveAnswer::Done(made) => made,
-        SolveAnswer::Refused(_) => SolveStats {
+        Ok(made) => made,
+        Err(_) => SolveStats {
             bounces: 0,
             change: 0.0,
         },

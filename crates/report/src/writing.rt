@@ -1,16 +1,17 @@
 // Lines put into a buffer, one after the other.
-ghost use Rattle.std.specs.Prelude.{◌≡◌, ◌+◌, ◌≤◌, eqb, length};
+ghost use Rattle.std.specs.Prelude.{◌≡◌, ◌+◌, ◌<◌, ◌≤◌, length};
 ghost use Rattle.std.proofs.lemmas.List.Edits.{sets};
 ghost use Rattle.accept.specs.Limits.{max_bounces};
-ghost use Rattle.accept.specs.Tables.{number_at};
-ghost use Rattle.vector.specs.Flat.{vec_at, rows};
+ghost use Rattle.vector.specs.Flat.{rows};
 ghost use Rattle.lines.specs.Lines.{probe_line};
 ghost use Rattle.report.specs.Report.{head_lines};
 ghost use Rattle.report.specs.Needs.{Lined, text_of};
+ghost use Rattle.report.specs.Needs.{seen_in as Needs·seen_in};
 
 use file::Counts;
 use lines::Line;
 use solve::settled;
+use vector::Vec3;
 
 // Puts a line from place `at` on; the place after it.
 pub fn put_line(text: &mut [u8], at: usize, line: Line) -> usize
@@ -42,15 +43,25 @@ pub fn put_probes(text: &mut [u8], at: usize, count: usize, seen: &[u32], light:
     requires count_bound { count ≤ 16384 }
     requires count_in_bounds { count ≤ length seen.now }
     ensures text_after { text.new
-        ≡ sets text.old at (rows (λ i. probe_line i (eqb (number_at seen.now i) 1) (vec_at light.now i)) count) }
-    ensures value { result ≡ at + length (rows (λ i. probe_line i (eqb (number_at seen.now i) 1) (vec_at light.now i)) count) }
+        ≡ sets text.old at (rows (λ i. probe_line i (Needs·seen_in seen.now light.now i)) count) }
+    ensures value { result ≡ at + length (rows (λ i. probe_line i (Needs·seen_in seen.now light.now i)) count) }
 {
     let mut to = at;
-    let mut i = 0;
-    while i < count {
-        let line = lines::probe(i as u32, seen[i] == 1, vector::at(light, i));
+    for i in 0..count {
+        let line = lines::probe(i as u32, seen_in(seen, light, i));
         to = put_line(text, to, line);
-        i += 1;
     }
     to
+}
+
+// The light that is seen at probe i, by what was written of the readings.
+fn seen_in(seen: &[u32], light: &[f32], i: usize) -> Option<Vec3>
+    requires { i < length seen.now }
+    ensures { result ≡ Needs·seen_in seen.now light.now i }
+{
+    if seen[i] == 1 {
+        Some(vector::at(light, i))
+    } else {
+        None
+    }
 }

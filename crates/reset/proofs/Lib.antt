@@ -1,2 +1,2 @@
--- What a reset that is not refused leaves.
+-- What a reset that is not refused was handed.
 pub mod Stored

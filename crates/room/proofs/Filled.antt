@@ -1,10 +1,10 @@
 -- What reading a file answers and leaves, from what the functions beneath answer: a call that is not refused reads columns that the file has in full and that were lent long enough. Assumes nothing.
-use mathlib.Core.Bool.{Bool, true}
+use mathlib.Core.Bool.{true}
 use mathlib.Core.List.{List, [], ◌∷◌}
 use mathlib.Core.Path.{◌≡◌, sym, ◌∙◌}
 use Prim.Native.Nat.{ℕ, ◌+◌, ◌≤◌}
 use native.Mathlib.Omega.{arith}
-use borrow.Author.Tests.{leb-true, ltb-true, le-leb, ne_eqb}
+use borrow.Author.Tests.{leb-true, ltb-true, le-leb}
 use lib.Dec.{leb, ltb}
 use lib.ListN.{length}
 use Rattle.accept.specs.Limits.{max_file}
@@ -12,18 +12,17 @@ use Rattle.accept.specs.Tables.{column, holds}
 use Rattle.accept.proofs.Bounded.{le_holds}
 use Rattle.accept.proofs.Every.{conj_each}
 use Rattle.file.specs.declared.Counts.{Counts}
-use Rattle.file.specs.declared.ProbeBox.{ProbeBox}
 use Rattle.file.specs.Blocks.{counts_in, points, normals, albedos, areas, directs, cluster_areas, firsts, member_counts, members}
 use Rattle.file.specs.Blocks.{row_starts, link_clusters, link_weights, probe_points, probe_normals}
-use Rattle.file.specs.Checks.{refusal, formed}
+use Rattle.file.specs.Checks.{check, formed}
 use Rattle.file.specs.Columns.{numbers_read, floats_read}
-use Rattle.file.specs.Rooms.{box_of_file}
 use Rattle.file.proofs.Accepted.{passed, has_points, has_normals, has_albedos, has_areas, has_directs, has_cluster_areas, has_firsts, has_member_counts}
 use Rattle.file.proofs.Accepted.{has_members, has_row_starts, has_link_clusters, has_link_weights, has_probe_points, has_probe_normals}
 use Rattle.file.proofs.Entries.{read_floats, read_numbers}
-use Rattle.room.specs.declared.ReadAnswer.TheVariants.{Refused, Done}
+use Rattle.accept.specs.declared.refusal.Refusal.{Refusal}
+use Rattle.std.specs.Prelude.{Ok, Err}
 use Rattle.room.specs.Answers.{surfels_hold, clusters_hold, rows_hold, probes_hold, columns_hold}
-use Rattle.room.specs.Answers.{surfels_over, clusters_over, rows_over, probes_over, columns_over, room_read_answer}
+use Rattle.room.specs.Answers.{surfels_over, clusters_over, rows_over, probes_over, columns_over, head_of, room_read_answer}
 use Rattle.room.specs.Lent.{SurfelColumns, ClusterColumns, RowColumns, ProbeColumns, Columns}
 
 -- the columns k of each block as the functions that read it leave them, from those lent, l
@@ -137,25 +136,19 @@ module _ (b : List ℕ) (f : formed b max_file ≡ true) where
       (rows_over_lem l.rows k.rows t.1.1.0 r)
       (probes_over_lem l.probes k.probes t.1.1.1.0 p)
 
--- the answer, from the counts, the test of the lengths and the number as the code finds them
-module _ (b : List ℕ) (l : Columns) {c : Counts} {lent : Bool} {number : ℕ}
-    (counts : c ≡ counts_in b) (held : lent ≡ columns_hold c l) (numbered : number ≡ refusal b max_file lent) where
-  -- the number is that of the definition
-  number_is : number ≡ refusal b max_file (columns_hold (counts_in b) l)
-  number_is = numbered ∙ rw (held, counts)
-
+-- the answer, from what refuses the file, if anything does
+module _ (b : List ℕ) (l : Columns) where
   -- refused, the columns are as they were
-  pub answer_refused : (number ≡ 0 → ⊥) → (Refused number, l) ≡ room_read_answer b l
+  pub answer_refused : {r : Refusal} → Err r ≡ check b max_file (columns_hold (counts_in b) l) → (Err r, l) ≡ room_read_answer b l
   unfolding room_read_answer
-  answer_refused h = rw (← number_is, ne_eqb number 0 h)
+  answer_refused e = rw (← e)
 
   -- done, they have the file's entries in front
-  pub answer_done : (k : Columns) {x : ProbeBox} → number ≡ 0
-      → SurfelsRead b c l.surfels k.surfels → ClustersRead b c l.clusters k.clusters
-      → RowsRead b c l.rows k.rows → ProbesRead b c l.probes k.probes
-      → x ≡ box_of_file b → (Done (record { counts = c; bounds = x }), k) ≡ room_read_answer b l
+  pub answer_done : (k : Columns) → Ok tt ≡ check b max_file (columns_hold (counts_in b) l)
+      → SurfelsRead b (counts_in b) l.surfels k.surfels → ClustersRead b (counts_in b) l.clusters k.clusters
+      → RowsRead b (counts_in b) l.rows k.rows → ProbesRead b (counts_in b) l.probes k.probes
+      → (Ok (head_of b), k) ≡ room_read_answer b l
   unfolding room_read_answer
-  answer_done k z s cs r p e =
-      let n = sym number_is ∙ z in
-      let h = passed b max_file (columns_hold (counts_in b) l) n in
-      rw (← number_is, z, e, counts, columns_over_lem b h.formed_passed l k h.lent_passed (rw counts at s) (rw counts at cs) (rw counts at r) (rw counts at p))
+  answer_done k e s cs r p =
+      let h = passed b max_file (columns_hold (counts_in b) l) (sym e) in
+      rw (← e, columns_over_lem b h.formed_passed l k h.lent_passed s cs r p)

@@ -1,3 +1,2 @@
 -- The lemmas of the proofs of `room`.
-pub mod Tested
 pub mod Filled

@@ -1,18 +1,17 @@
 -- What reading a room file answers and leaves, refused or not: document 01, 'The room file and `roomlight`' and 'Refused calls'. Definitions only.
-use Rattle.std.specs.Prelude.{Bool, List, [], ◌∷◌, ℕ, leb, ltb, length}
+use Rattle.std.specs.Prelude.{Bool, List, [], ◌∷◌, ℕ, leb, ltb, length, Result, Ok, Err}
 use Rattle.accept.specs.Every.{conj}
 use Rattle.accept.specs.Limits.{max_file}
-use Rattle.accept.specs.Refusal.{answered}
+use Rattle.accept.specs.Refusal.{outcome}
+use Rattle.accept.specs.declared.refusal.Refusal.{Refusal}
 use Rattle.accept.specs.Tables.{column}
 use Rattle.file.specs.declared.Counts.{Counts}
 use Rattle.file.specs.Blocks.{counts_in, points, normals, albedos, areas, directs, cluster_areas, firsts, member_counts, members}
 use Rattle.file.specs.Blocks.{row_starts, link_clusters, link_weights, probe_points, probe_normals}
 use Rattle.file.specs.Columns.{numbers_over, floats_over}
 use Rattle.file.specs.Rooms.{box_of_file}
-use Rattle.file.specs.Checks.{refusal}
+use Rattle.file.specs.Checks.{check}
 use Rattle.room.specs.declared.Head.{Head}
-use Rattle.room.specs.declared.ReadAnswer.{ReadAnswer}
-use Rattle.room.specs.declared.ReadAnswer.TheVariants.{Refused, Done}
 use Rattle.room.specs.Lent.{SurfelColumns, ClusterColumns, RowColumns, ProbeColumns, Columns}
 
 -- 4: each column holds its entries; row starts are one more than surfels
@@ -85,6 +84,6 @@ abbrev pub head_of : List ℕ → Head
 head_of b = record { counts = counts_in b; bounds = box_of_file b }
 
 -- a file read: the answer and the columns
-unfoldable pub room_read_answer : List ℕ → Columns → ReadAnswer × Columns
+unfoldable pub room_read_answer : List ℕ → Columns → Result Head Refusal × Columns
 room_read_answer b l =
-    answered (λ number. (Refused number, l)) (Done (head_of b), columns_over b l) (refusal b max_file (columns_hold (counts_in b) l))
+    outcome (λ refusal. (Err refusal, l)) (Ok (head_of b), columns_over b l) (check b max_file (columns_hold (counts_in b) l))

@@ -3,16 +3,19 @@ ghost use Rattle.std.specs.Prelude.{◌≡◌};
 ghost use Rattle.room.specs.Lent.{columns_in, columns_out};
 ghost use Rattle.room.specs.Answers.{room_read_answer};
 
+use crate::Head;
 use crate::lengths::columns_hold;
-use crate::reading::read_surfels;
-use crate::{Head, ReadAnswer};
+use accept::Refusal;
 use accept::limits::MAX_FILE;
-use file::{read_clusters, read_probes, read_rows};
+use file::RoomFile;
 
 // Reads the room that the bytes of a file hold into these columns, at the front of each, or refuses
-// the file by document 01's number and then writes nothing. Surfels have three floats of p, normals,
+// the file and then writes nothing. Surfels have three floats of p, normals,
 // albedo and direct and one of area; clusters one of area and their range of members; starts has
 // one number more than surfels; links have a cluster and a weight; probes three floats of each.
+//
+// Kept: the columns stay fourteen slices, as C lends them, since a struct of slices that are written
+// would be taken apart and put together again at each call.
 pub fn room_read(
     bytes: &[u8],
     p: &mut [f32],
@@ -29,7 +32,7 @@ pub fn room_read(
     link_weight: &mut [f32],
     probe_p: &mut [f32],
     probe_normals: &mut [f32],
-) -> ReadAnswer
+) -> Result<Head, Refusal>
     ensures { (
       result,
       columns_out p normals albedo area direct cluster_area first count member starts link_cluster link_weight probe_p
@@ -38,9 +41,9 @@ pub fn room_read(
         ≡ room_read_answer bytes.now
         (columns_in p normals albedo area direct cluster_area first count member starts link_cluster link_weight probe_p probe_normals) }
 {
-    let c = file::counts_in(bytes);
+    let file = RoomFile::new(bytes);
     let lent = columns_hold(
-        c,
+        file.counts(),
         p,
         normals,
         albedo,
@@ -56,16 +59,14 @@ pub fn room_read(
         probe_p,
         probe_normals,
     );
-    let number = file::refusal(bytes, MAX_FILE, lent);
-    if number != 0 {
-        return ReadAnswer::Refused(number);
-    }
-    read_surfels(bytes, c, p, normals, albedo, area, direct);
-    read_clusters(bytes, c, cluster_area, first, count, member);
-    read_rows(bytes, c, starts, link_cluster, link_weight);
-    read_probes(bytes, c, probe_p, probe_normals);
-    ReadAnswer::Done(Head {
-        counts: c,
-        bounds: file::probe_box(bytes),
+    file.check(MAX_FILE, lent)?;
+    file.read_points(p, normals);
+    file.read_surfaces(albedo, area, direct);
+    file.read_clusters(cluster_area, first, count, member);
+    file.read_rows(starts, link_cluster, link_weight);
+    file.read_probes(probe_p, probe_normals);
+    Ok(Head {
+        counts: file.counts(),
+        bounds: file.probe_box(),
     })
 }

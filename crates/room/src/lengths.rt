@@ -7,6 +7,7 @@ use accept::{holds, wide};
 use file::Counts;
 
 // Whether each column holds its entries.
+#[tactic(auto, unfolding(crate::specs::Answers::columns_hold, crate::specs::Answers::surfels_hold, crate::specs::Answers::clusters_hold, crate::specs::Answers::rows_hold, crate::specs::Answers::probes_hold))]
 pub fn columns_hold(
     c: Counts,
     p: &[f32],

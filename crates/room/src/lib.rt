@@ -5,7 +5,6 @@
 
 mod entries;
 mod lengths;
-mod reading;
 
 pub use entries::room_read;
 use file::{Counts, ProbeBox};
@@ -16,11 +15,4 @@ use file::{Counts, ProbeBox};
 pub struct Head {
     pub counts: Counts,
     pub bounds: ProbeBox,
-}
-
-// What reading a file answers: refused with a number, or done.
-#[derive(Clone, Copy)]
-pub enum ReadAnswer {
-    Refused(u32),
-    Done(Head),
 }

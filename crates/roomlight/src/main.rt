@@ -1,7 +1,6 @@
 // Prints the report of the room file that stands on standard input.
 #![tactic(auto)]
 
-use report::ReportAnswer;
 use std::io;
 
 // One byte more is read than a room may have, so that a longer file is seen to be too long.
@@ -15,7 +14,7 @@ fn main(rt: HostRuntime) -> io::Result<()> {
 fn print_report(rt: &impl Print, bytes: &[u8]) -> io::Result<()> {
     let mut text = [0u8; report::MAX_REPORT];
     let answer = report::room_report(bytes, &mut text);
-    if let ReportAnswer::Done(end) = answer {
+    if let Ok(end) = answer {
         print_start(rt, &text, end)?;
     }
     Ok(())

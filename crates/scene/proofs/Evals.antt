@@ -1,12 +1,12 @@
 -- How many evaluations of the distance a march and a closure make, at most. Assumes nothing.
+use Rattle.std.specs.Prelude.{Option, Some, None}
 use Prim.Native.Nat.{ℕ, zero, suc, ◌+◌, ◌*◌, ◌≤◌}
 use native.Mathlib.Omega.{arith}
 use lib.Ieee.{Float, binary32, of_bits, lt}
 use Rattle.float.specs.Arithmetic.{◌+f◌}
 use Rattle.vector.specs.declared.Vec3.{Vec3}
 use Rattle.vector.specs.Fold.{fold}
-use Rattle.scene.specs.declared.Found.{Found}
-use Rattle.scene.specs.declared.Found.TheVariants.{At, None}
+use Rattle.scene.specs.declared.Hit.{Hit}
 use Rattle.scene.specs.declared.Openings.{Openings}
 use Rattle.scene.specs.declared.Shadow.{Shadow}
 use Rattle.scene.specs.declared.Traced.{Traced}
@@ -52,9 +52,9 @@ unfolding soft_shadow
 shadow_evals s ro rd tmin tmax k = shadow_from_lem s ro rd tmax k 96 0 tmin _ _
 
 -- a ray counts at most once
-missed_few : (f : Found) → missed_by f ≤ 1
+missed_few : (f : Option Hit) → missed_by f ≤ 1
 unfolding missed_by
-missed_few (At h) = omega arith
+missed_few (Some h) = omega arith
 missed_few None = omega arith
 
 -- one ray more

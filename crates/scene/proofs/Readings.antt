@@ -1,4 +1,5 @@
 -- What the definitions say, read back: how a march and a shadow begin, and the empty scene. Assumes nothing.
+use Rattle.std.specs.Prelude.{None}
 use mathlib.Core.Path.{◌≡◌, refl, sym, ◌∙◌, ap}
 use mathlib.Core.Bool.{true, false}
 use Prim.Native.Nat.{ℕ, zero, suc, ◌+◌, ◌≤◌}
@@ -14,7 +15,6 @@ use Rattle.vector.specs.Fold.{fold}
 use Rattle.tables.specs.Tables.{Scene}
 use Rattle.field.specs.Nearest.{nearest_part, far, dist_mat, dist}
 use Rattle.field.proofs.Chosen.{chosen}
-use Rattle.scene.specs.declared.Found.TheVariants.{None}
 use Rattle.scene.specs.declared.Openings.{Openings}
 use Rattle.scene.specs.declared.Traced.{Traced}
 use Rattle.vector.specs.Halton.{of_whole}

@@ -1,4 +1,5 @@
 -- One turn of each march in the words of the code: what its calls gave, each with its equation. Assumes nothing.
+use Rattle.std.specs.Prelude.{Some, None}
 use mathlib.Core.Path.{◌≡◌, refl}
 use mathlib.Core.Bool.{true, false}
 use Prim.Native.Nat.{ℕ, zero, suc, ◌+◌}
@@ -6,7 +7,6 @@ use lib.Ieee.{Float, binary32, of_bits, lt}
 use Rattle.float.specs.Arithmetic.{◌+f◌}
 use Rattle.vector.specs.declared.Vec3.{Vec3}
 use Rattle.field.specs.declared.DistHit.{DistHit}
-use Rattle.scene.specs.declared.Found.TheVariants.{At, None}
 use Rattle.tables.specs.Tables.{Scene}
 use Rattle.field.specs.Nearest.{dist_mat, dist}
 use Rattle.field.specs.Gradient.{normal}
@@ -17,7 +17,7 @@ use Rattle.scene.specs.Shading.{lowered, onward, occluded, visible, shadow_from}
 module _ (s : Scene) (ro rd : Vec3) (tmax : Float) (left made n : ℕ) (t : Float) (p : Vec3) (h : DistHit) (x : Float)
     (el : n ≡ suc left) (ep : p ≡ along ro rd t) (eh : h ≡ dist_mat s p) (ex : x ≡ tolerance t) where
   pub trace_hit : (v : Vec3) → v ≡ normal s p → lt h.d x ≡ true
-      → record { found = At (record { t = t; p = p; n = v; mat = h.mat }); evals = made + 5 } ≡ trace_from s ro rd tmax n made t
+      → record { found = Some (record { t = t; p = p; n = v; mat = h.mat }); evals = made + 5 } ≡ trace_from s ro rd tmax n made t
   unfolding trace_from hit_at
   trace_hit v ev g = rw (el, ← ep, ← eh, ← ex, g, ev, ep)
 

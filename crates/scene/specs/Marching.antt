@@ -1,13 +1,12 @@
 -- A ray marched through a scene: document 01, 'Distance and marching' (`trace` answers a hit or none within 128 steps), in the order of the Rust's float steps.
 -- Definitions only.
-use Rattle.std.specs.Prelude.{cond, ℕ, zero, suc, ◌+◌, Float}
+use Rattle.std.specs.Prelude.{cond, ℕ, zero, suc, ◌+◌, Float, Some, None}
 use Rattle.std.specs.Float.{binary32}
 use Rattle.std.specs.Float.Ieee.{of_bits, lt}
 use Rattle.float.specs.Arithmetic.{◌+f◌, ◌*f◌, 1f}
 use Rattle.float.specs.Order.{greater}
 use Rattle.vector.specs.declared.Vec3.{Vec3}
 use Rattle.vector.specs.Vector.{plus, scaled}
-use Rattle.scene.specs.declared.Found.TheVariants.{At, None}
 use Rattle.scene.specs.declared.Hit.{Hit}
 use Rattle.scene.specs.declared.Traced.{Traced}
 use Rattle.tables.specs.Tables.{Scene}
@@ -33,7 +32,7 @@ unfoldable pub trace_from : Scene → Vec3 → Vec3 → Float → ℕ → ℕ �
 trace_from s ro rd tmax zero made t = record { found = None; evals = made }
 trace_from s ro rd tmax (suc left) made t =
     let d = (dist_mat s (along ro rd t)).d in
-    cond (lt d (tolerance t)) (record { found = At (hit_at s ro rd t); evals = made + 5 })
+    cond (lt d (tolerance t)) (record { found = Some (hit_at s ro rd t); evals = made + 5 })
     (cond (lt tmax (t +f d)) (record { found = None; evals = made + 1 }) (trace_from s ro rd tmax left (made + 1) (t +f d)))
 
 -- from tmin on, at most 128 samples

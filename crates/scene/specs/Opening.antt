@@ -1,5 +1,5 @@
 -- The open part of the hemisphere above a point: document 01, 'The rows' (16 directions), the Rust's `hemisphere_closure` in its order of float steps. Definitions only.
-use Rattle.std.specs.Prelude.{ℕ, ◌+◌, Float}
+use Rattle.std.specs.Prelude.{ℕ, ◌+◌, Float, Option, Some, None}
 use Rattle.std.specs.Float.{binary32}
 use Rattle.std.specs.Float.Ieee.{of_bits}
 use Rattle.float.specs.Arithmetic.{◌/f◌}
@@ -9,8 +9,7 @@ use Rattle.vector.specs.Vector.{plus, scaled, normalize}
 use Rattle.vector.specs.Tangent.{frame}
 use Rattle.vector.specs.Fold.{fold}
 use Rattle.scene.specs.declared.Closure.{Closure}
-use Rattle.scene.specs.declared.Found.{Found}
-use Rattle.scene.specs.declared.Found.TheVariants.{At, None}
+use Rattle.scene.specs.declared.Hit.{Hit}
 use Rattle.scene.specs.declared.Openings.{Openings}
 use Rattle.scene.specs.declared.Traced.{Traced}
 use Rattle.tables.specs.Tables.{Scene}
@@ -35,8 +34,8 @@ unfoldable pub ray : Scene → Vec3 → Vec3 → Float → ℕ → Traced
 ray s p n tmax k = trace s (ray_start p n) (normalize (in_frame (frame n) n (direction k))) offset tmax
 
 -- a ray that met nothing counts
-unfoldable pub missed_by : Found → ℕ
-missed_by (At h) = 0
+unfoldable pub missed_by : Option Hit → ℕ
+missed_by (Some h) = 0
 missed_by None = 1
 
 -- one ray more

@@ -1,6 +1,6 @@
 // The public entries on a scene of distance shapes, and the marches beneath them.
 //
-// The entries refuse by document 01's numbers. The functions of `marching`, `shading` and `opening`
+// The entries refuse for document 01's reasons. The functions of `marching`, `shading` and `opening`
 // are total and take any ray: they are for callers that have checked the scene themselves. No
 // public function has a `requires`.
 #![tactic(auto)]
@@ -11,8 +11,16 @@ pub mod opening;
 pub mod shading;
 
 pub use entries::{dist_mat, hemisphere_closure, normal, soft_shadow, trace};
-use field::DistHit;
 use vector::Vec3;
+
+// A ray from ro along rd, followed from tmin up to tmax.
+#[derive(Clone, Copy)]
+pub struct Ray {
+    pub ro: Vec3,
+    pub rd: Vec3,
+    pub tmin: f32,
+    pub tmax: f32,
+}
 
 // Where a ray met the scene: how far along, the point, the normal and the material.
 #[derive(Clone, Copy)]
@@ -23,17 +31,10 @@ pub struct Hit {
     pub mat: u32,
 }
 
-// A hit or none.
-#[derive(Clone, Copy)]
-pub enum Found {
-    At(Hit),
-    None,
-}
-
 // What a ray met, and how many distances were evaluated.
 #[derive(Clone, Copy)]
 pub struct Traced {
-    pub found: Found,
+    pub found: Option<Hit>,
     pub evals: u32,
 }
 
@@ -80,35 +81,4 @@ pub struct Closure {
 pub struct Openings {
     pub missed: u32,
     pub evals: u32,
-}
-
-// What the entries answer: refused with a number, or done.
-#[derive(Clone, Copy)]
-pub enum DistAnswer {
-    Refused(u32),
-    Done(DistHit),
-}
-
-#[derive(Clone, Copy)]
-pub enum NormalAnswer {
-    Refused(u32),
-    Done(Vec3),
-}
-
-#[derive(Clone, Copy)]
-pub enum TraceAnswer {
-    Refused(u32),
-    Done(Traced),
-}
-
-#[derive(Clone, Copy)]
-pub enum ShadowAnswer {
-    Refused(u32),
-    Done(Shadow),
-}
-
-#[derive(Clone, Copy)]
-pub enum ClosureAnswer {
-    Refused(u32),
-    Done(Closure),
 }

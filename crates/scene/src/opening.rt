@@ -1,51 +1,39 @@
 // How open the hemisphere above a point is.
 ghost use Rattle.std.specs.Prelude.{◌≡◌, ◌*◌, ◌<◌, ◌≤◌};
-ghost use Rattle.tables.specs.Tables.{scene_in};
 ghost use Rattle.scene.specs.Directions.{direction};
 ghost use Rattle.scene.specs.Opening.{in_frame, ray, counted, openings, hemisphere_closure};
 
 use crate::marching::trace;
-use crate::{Closure, Found, Openings, Traced};
+use crate::{Closure, Openings, Ray, Traced};
 use float::of_bits;
+use tables::Scene;
 use vector::{Tangents, Vec3};
 
 // The bits of the 16 directions: x, y, z each.
-const DIRECTIONS: [u32; 48] = [
-    0xbeb504f4, 0x3f1cc470, 0x3f3504f3, 0xbe7ffffd, 0xbeddb3d8, 0x3f5db3d7, 0x3f29d57e, 0x3f0e81f5,
-    0x3f000000, 0xbeaa1a41, 0x3df7a615, 0x3f6f7751, 0x3e0c9378, 0xbf474fa2, 0x3f1cc471, 0x3dd9c757,
-    0x3f1a62be, 0x3f4a62c2, 0xbf610645, 0xbea3cdf8, 0x3eb504f3, 0x3e441b86, 0xbe248db0, 0x3f77def6,
-    0x3f3ad31a, 0x3e311cee, 0x3f2953fd, 0xbec469f1, 0x3ed02fbd, 0x3f544395, 0xbe845cdd, 0xbf5d0fa7,
-    0x3eddb3d7, 0x3e84643b, 0x3eb1d52e, 0x3f66c15a, 0xbf52d429, 0x3dc52357, 0x3f0f1bbd, 0x3e86228b,
-    0xbf1b7ad1, 0x3f400000, 0xbd66997b, 0x3f77739a, 0x3e800000, 0xbe173d4c, 0xbdc6f189, 0x3f7bf7df,
+const DIRECTIONS: [[u32; 3]; 16] = [
+    [0xbeb504f4, 0x3f1cc470, 0x3f3504f3],
+    [0xbe7ffffd, 0xbeddb3d8, 0x3f5db3d7],
+    [0x3f29d57e, 0x3f0e81f5, 0x3f000000],
+    [0xbeaa1a41, 0x3df7a615, 0x3f6f7751],
+    [0x3e0c9378, 0xbf474fa2, 0x3f1cc471],
+    [0x3dd9c757, 0x3f1a62be, 0x3f4a62c2],
+    [0xbf610645, 0xbea3cdf8, 0x3eb504f3],
+    [0x3e441b86, 0xbe248db0, 0x3f77def6],
+    [0x3f3ad31a, 0x3e311cee, 0x3f2953fd],
+    [0xbec469f1, 0x3ed02fbd, 0x3f544395],
+    [0xbe845cdd, 0xbf5d0fa7, 0x3eddb3d7],
+    [0x3e84643b, 0x3eb1d52e, 0x3f66c15a],
+    [0xbf52d429, 0x3dc52357, 0x3f0f1bbd],
+    [0x3e86228b, 0xbf1b7ad1, 0x3f400000],
+    [0xbd66997b, 0x3f77739a, 0x3e800000],
+    [0xbe173d4c, 0xbdc6f189, 0x3f7bf7df],
 ];
 
 // The part of 16 directions above p, spread about n, in which a ray meets nothing up to tmax.
-pub fn hemisphere_closure(
-    prims: usize,
-    planes: usize,
-    objects: usize,
-    kinds: &[u32],
-    lengths: &[f32],
-    plane_parts: &[u32],
-    object_parts: &[u32],
-    p: Vec3,
-    n: Vec3,
-    tmax: f32,
-) -> Closure
-    ensures { result ≡ hemisphere_closure (scene_in prims planes objects kinds lengths plane_parts object_parts) p n tmax }
+pub fn hemisphere_closure(scene: &Scene, p: Vec3, n: Vec3, tmax: f32) -> Closure
+    ensures { result ≡ hemisphere_closure scene.now p n tmax }
 {
-    let o = openings(
-        prims,
-        planes,
-        objects,
-        kinds,
-        lengths,
-        plane_parts,
-        object_parts,
-        p,
-        n,
-        tmax,
-    );
+    let o = openings(scene, p, n, tmax);
     Closure {
         sky: o.missed as f32 / 16.0,
         evals: o.evals,
@@ -53,88 +41,45 @@ pub fn hemisphere_closure(
 }
 
 // How many of the 16 rays meet nothing, and the evaluations of them all.
-fn openings(
-    prims: usize,
-    planes: usize,
-    objects: usize,
-    kinds: &[u32],
-    lengths: &[f32],
-    plane_parts: &[u32],
-    object_parts: &[u32],
-    p: Vec3,
-    n: Vec3,
-    tmax: f32,
-) -> Openings
-    ensures { result ≡ openings (scene_in prims planes objects kinds lengths plane_parts object_parts) p n tmax 16 }
+#[tactic(auto, unfolding(crate::specs::Opening::openings, vector::specs::Fold::fold))]
+fn openings(scene: &Scene, p: Vec3, n: Vec3, tmax: f32) -> Openings
+    ensures { result ≡ openings scene.now p n tmax 16 }
 {
     let mut o = Openings {
         missed: 0,
         evals: 0,
     };
-    let mut k = 0;
-    while k < 16 {
-        o = o.counted(ray(
-            prims,
-            planes,
-            objects,
-            kinds,
-            lengths,
-            plane_parts,
-            object_parts,
-            p,
-            n,
-            tmax,
-            k,
-        ));
-        k += 1;
+    for k in 0..16 {
+        o = o.counted(ray(scene, p, n, tmax, k));
     }
     o
 }
 
 // What the ray in direction k of the 16 meets, from a little way above p on.
-fn ray(
-    prims: usize,
-    planes: usize,
-    objects: usize,
-    kinds: &[u32],
-    lengths: &[f32],
-    plane_parts: &[u32],
-    object_parts: &[u32],
-    p: Vec3,
-    n: Vec3,
-    tmax: f32,
-    k: usize,
-) -> Traced
+#[tactic(auto, unfolding(crate::specs::Opening::ray, crate::specs::Opening::ray_start))]
+fn ray(scene: &Scene, p: Vec3, n: Vec3, tmax: f32, k: usize) -> Traced
     requires { k < 16 }
-    ensures { result ≡ ray (scene_in prims planes objects kinds lengths plane_parts object_parts) p n tmax k }
+    ensures { result ≡ ray scene.now p n tmax k }
 {
-    let ro = p.plus(n.scaled(1e-3));
-    let rd = in_frame(vector::frame(n), n, direction(k)).normalize();
-    trace(
-        prims,
-        planes,
-        objects,
-        kinds,
-        lengths,
-        plane_parts,
-        object_parts,
-        ro,
-        rd,
-        1e-3,
+    let ray = Ray {
+        ro: p.plus(n.scaled(1e-3)),
+        rd: in_frame(vector::frame(n), n, direction(k)).normalize(),
+        tmin: 1e-3,
         tmax,
-    )
+    };
+    trace(scene, ray)
 }
 
 impl Openings {
     // One ray more.
+    #[tactic(auto, unfolding(crate::specs::Opening::counted, crate::specs::Opening::missed_by))]
     fn counted(self, r: Traced) -> Openings
         requires missed_bound { self.missed < 16 }
         requires evals_bound { self.evals ≤ 2112 }
         requires evals_bound_2 { r.evals ≤ 132 }
         ensures { result ≡ counted self r }
     {
-        let found = r.found;
-        let Found::At(_) = found else {
+        let Some(_) = r.found else {
             return Openings {
                 missed: self.missed + 1,
                 evals: self.evals + r.evals,
@@ -148,6 +93,7 @@ impl Openings {
 }
 
 // d's x along t, y along b and z along n.
+#[tactic(auto, unfolding(crate::specs::Opening::in_frame))]
 fn in_frame(f: Tangents, n: Vec3, d: Vec3) -> Vec3
     ensures { result ≡ in_frame f n d }
 {
@@ -159,9 +105,10 @@ fn direction(k: usize) -> Vec3
     requires { k < 16 }
     ensures { result ≡ direction k }
 {
+    let [x, y, z] = DIRECTIONS[k];
     Vec3 {
-        x: of_bits(DIRECTIONS[3 * k]),
-        y: of_bits(DIRECTIONS[3 * k + 1]),
-        z: of_bits(DIRECTIONS[3 * k + 2]),
+        x: of_bits(x),
+        y: of_bits(y),
+        z: of_bits(z),
     }
 }

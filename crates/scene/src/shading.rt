@@ -1,47 +1,25 @@
 // How much of a light is seen.
 ghost use Rattle.std.specs.Prelude.{◌≡◌, ◌+◌, ◌<◌};
-ghost use Rattle.tables.specs.Tables.{scene_in};
 ghost use Rattle.scene.specs.Shading.{approach, lowered, onward, soft_shadow};
 
-use crate::marching::along;
-use crate::{Approach, Shadow, ShadowMarch};
+use crate::{Approach, Ray, Shadow, ShadowMarch};
 use field::dist;
+use tables::Scene;
 use vector::Vec3;
 
 // How much of a light of tightness k is seen along the ray between tmin and tmax.
-pub fn soft_shadow(
-    prims: usize,
-    planes: usize,
-    objects: usize,
-    kinds: &[u32],
-    lengths: &[f32],
-    plane_parts: &[u32],
-    object_parts: &[u32],
-    ro: Vec3,
-    rd: Vec3,
-    tmin: f32,
-    tmax: f32,
-    k: f32,
-) -> Shadow
-    ensures { result ≡ soft_shadow (scene_in prims planes objects kinds lengths plane_parts object_parts) ro rd tmin tmax k }
+pub fn soft_shadow(scene: &Scene, ray: Ray, k: f32) -> Shadow
+    ensures { result ≡ soft_shadow scene.now ray.ro ray.rd ray.tmin ray.tmax k }
 {
     let mut m = ShadowMarch {
         res: 1.0,
-        t: tmin,
+        t: ray.tmin,
         ph: 1e20,
         steps: 0,
     };
-    while m.steps < 96 && m.t < tmax {
-        let h = dist(
-            prims,
-            planes,
-            objects,
-            kinds,
-            lengths,
-            plane_parts,
-            object_parts,
-            along(ro, rd, m.t),
-        );
+    // Kept: the cursor counts its samples, and marching cursors are passed on by value.
+    while m.steps < 96 && m.t < ray.tmax {
+        let h = dist(scene, ray.at(m.t));
         if h < 1e-4 {
             return Shadow {
                 visibility: 0.0,
@@ -65,6 +43,7 @@ pub fn soft_shadow(
 
 impl ShadowMarch {
     // The visibility after a sample h.
+    #[tactic(auto, unfolding(crate::specs::Shading::lowered))]
     fn lowered(self, h: f32, k: f32) -> f32
         ensures { result ≡ lowered self.res k h self.ph self.t }
     {
@@ -73,6 +52,7 @@ impl ShadowMarch {
     }
 
     // The cursor after the sample h, with the visibility that it left.
+    #[tactic(auto, unfolding(crate::specs::Shading::onward))]
     fn onward(mut self, h: f32, res: f32) -> ShadowMarch
         requires { self.steps < 96 }
         ensures { result ≡ record { res = res; t = onward self.t h; ph = h; steps = self.steps + 1 } }
@@ -87,13 +67,14 @@ impl ShadowMarch {
 
 // Where the ray came closest at a sample h after a sample ph: corrected while it approaches, else at
 // the sample itself.
+#[tactic(auto, unfolding(crate::specs::Shading::approach, crate::specs::Shading::closest_approach))]
 fn approach(h: f32, ph: f32) -> Approach
     ensures { result ≡ approach h ph }
 {
     if h < ph {
         let y = h * h / (2.0 * ph);
         Approach {
-            y: y,
+            y,
             d: float::sqrt(float::max(h * h - y * y, 0.0)),
         }
     } else {

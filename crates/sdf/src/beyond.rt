@@ -5,6 +5,7 @@ ghost use Rattle.sdf.specs.Beyond.{beyond, far_sphere, far_box, far_capsule};
 use vector::Vec3;
 
 // Whether the root of a square, less r, is surely not below best. False says nothing.
+#[tactic(auto, unfolding(crate::specs::Beyond::beyond))]
 pub fn beyond(square: f32, r: f32, best: f32) -> bool
     ensures { result ≡ beyond square r best }
 {
@@ -13,6 +14,7 @@ pub fn beyond(square: f32, r: f32, best: f32) -> bool
 }
 
 // Whether p is surely no nearer to the sphere than best.
+#[tactic(auto, unfolding(crate::specs::Beyond::far_sphere))]
 pub fn sphere(c: Vec3, r: f32, p: Vec3, best: f32) -> bool
     ensures { result ≡ far_sphere c r p best }
 {
@@ -21,6 +23,7 @@ pub fn sphere(c: Vec3, r: f32, p: Vec3, best: f32) -> bool
 
 // Whether p is surely outside the box that lies r further in, and no nearer to the rounded box than
 // best.
+#[tactic(auto, unfolding(crate::specs::Beyond::far_box))]
 pub fn round_box(c: Vec3, b: Vec3, r: f32, p: Vec3, best: f32) -> bool
     ensures { result ≡ far_box c b r p best }
 {
@@ -30,6 +33,7 @@ pub fn round_box(c: Vec3, b: Vec3, r: f32, p: Vec3, best: f32) -> bool
 }
 
 // Whether p is surely no nearer to the capsule than best.
+#[tactic(auto, unfolding(crate::specs::Beyond::far_capsule))]
 pub fn capsule(a: Vec3, b: Vec3, r: f32, p: Vec3, best: f32) -> bool
     ensures { result ≡ far_capsule a b r p best }
 {

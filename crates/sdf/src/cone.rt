@@ -9,6 +9,7 @@ use vector::Vec3;
 
 // The distance from p to the cone. One whose axis is next to nothing is a sphere around a, with the
 // greater of the two radii.
+#[tactic(auto, unfolding(crate::specs::Cone::cone))]
 pub fn cone(a: Vec3, b: Vec3, ra: f32, rb: f32, p: Vec3) -> f32
     ensures { result ≡ cone a b ra rb p }
 {

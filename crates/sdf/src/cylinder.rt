@@ -8,6 +8,7 @@ ghost use Rattle.sdf.specs.Cylinder.{cylinder};
 use vector::Vec3;
 
 // The distance from p to the cylinder. One whose axis is next to nothing is a sphere around a.
+#[tactic(auto, unfolding(crate::specs::Cylinder::cylinder))]
 pub fn cylinder(a: Vec3, b: Vec3, r: f32, p: Vec3) -> f32
     ensures { result ≡ cylinder a b r p }
 {

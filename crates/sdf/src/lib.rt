@@ -35,6 +35,7 @@ pub enum Shape {
 
 impl Shape {
     // The signed distance from p to the shape.
+    #[tactic(auto, unfolding(crate::specs::Distance::dist))]
     pub fn dist(self, p: Vec3) -> f32
         ensures { result ≡ dist self p }
     {
@@ -51,17 +52,18 @@ impl Shape {
 
     // Whether the shape is surely no nearer to p than best, found with no root: where it is true, best
     // is above 0 and no more than the distance. False says nothing.
+    #[tactic(auto, unfolding(crate::specs::Beyond::far))]
     pub fn far(self, p: Vec3, best: f32) -> bool
         ensures { result ≡ far self p best }
     {
         match self {
             Shape::Sphere { c, r } => beyond::sphere(c, r, p, best),
             Shape::RoundBox { c, b, r } => beyond::round_box(c, b, r, p, best),
-            Shape::Plane { n, h } => false,
             Shape::Capsule { a, b, r } => beyond::capsule(a, b, r, p, best),
-            Shape::Torus { c, major, minor } => false,
-            Shape::Cylinder { a, b, r } => false,
-            Shape::Cone { a, b, ra, rb } => false,
+            Shape::Plane { .. }
+            | Shape::Torus { .. }
+            | Shape::Cylinder { .. }
+            | Shape::Cone { .. } => false,
         }
     }
 }

@@ -5,6 +5,7 @@ ghost use Rattle.sdf.specs.Solids.{sphere, round_box, plane, capsule, torus};
 use vector::Vec3;
 
 // The distance from p to the sphere.
+#[tactic(auto, unfolding(crate::specs::Solids::sphere))]
 pub fn sphere(c: Vec3, r: f32, p: Vec3) -> f32
     ensures { result ≡ sphere c r p }
 {
@@ -12,6 +13,7 @@ pub fn sphere(c: Vec3, r: f32, p: Vec3) -> f32
 }
 
 // The distance from p to the box with rounded edges.
+#[tactic(auto, unfolding(crate::specs::Solids::round_box))]
 pub fn round_box(c: Vec3, b: Vec3, r: f32, p: Vec3) -> f32
     ensures { result ≡ round_box c b r p }
 {
@@ -20,6 +22,7 @@ pub fn round_box(c: Vec3, b: Vec3, r: f32, p: Vec3) -> f32
 }
 
 // The distance from p to the plane, which divides what is inside from what is outside.
+#[tactic(auto, unfolding(crate::specs::Solids::plane))]
 pub fn plane(n: Vec3, h: f32, p: Vec3) -> f32
     ensures { result ≡ plane n h p }
 {
@@ -27,6 +30,7 @@ pub fn plane(n: Vec3, h: f32, p: Vec3) -> f32
 }
 
 // The distance from p to the capsule: NaN where its two ends are one point.
+#[tactic(auto, unfolding(crate::specs::Solids::capsule))]
 pub fn capsule(a: Vec3, b: Vec3, r: f32, p: Vec3) -> f32
     ensures { result ≡ capsule a b r p }
 {
@@ -37,6 +41,7 @@ pub fn capsule(a: Vec3, b: Vec3, r: f32, p: Vec3) -> f32
 }
 
 // The distance from p to the torus.
+#[tactic(auto, unfolding(crate::specs::Solids::torus))]
 pub fn torus(c: Vec3, major: f32, minor: f32, p: Vec3) -> f32
     ensures { result ≡ torus c major minor p }
 {

@@ -6,6 +6,7 @@ ghost use Rattle.seeds.specs.Seeds.{seed};
 use vector::Vec3;
 
 // The point number i of the Halton sequence in bases 2, 3 and 5.
+#[tactic(auto, unfolding(crate::specs::Seeds::seed))]
 pub fn seed(i: u32) -> Vec3
     ensures { result ≡ seed i }
 {
@@ -17,6 +18,7 @@ pub fn seed(i: u32) -> Vec3
 }
 
 // The digits of i in a base, mirrored at the point.
+// Kept: a turn takes one digit off, and no range says how many there are.
 fn halton(i: u32, base: u32) -> f32
     requires le_base { 2 ≤ base }
     requires base_bound { base ≤ 2 ^ 24 }

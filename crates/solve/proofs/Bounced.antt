@@ -1,23 +1,21 @@
 -- A bounce of the code is the bounce of the definition: rows that read the stored light of the clusters read the clusters' light. Assumes nothing.
 use mathlib.Core.List.{List}
 use mathlib.Core.Path.{◌≡◌, refl, ap, ◌∙◌}
-use Prim.Native.Nat.{ℕ, ◌+◌, ◌*◌, ◌<◌, ◌≤◌}
+use Prim.Native.Nat.{ℕ, ◌+◌, ◌<◌}
 use native.Mathlib.Omega.{arith}
 use lib.Ieee.{Float}
-use lib.ListN.{length}
 use Rattle.float.specs.Arithmetic.{0f}
 use Rattle.float.specs.Column.{float_at}
 use Rattle.float.specs.Order.{greater}
 use Rattle.vector.specs.declared.Vec3.{Vec3}
 use Rattle.vector.specs.Flat.{vec_at, components, written}
 use Rattle.vector.specs.Vector.{plus, zero_vec, scaled}
-use Rattle.vector.proofs.Replaced.{replaced_again, length_written, at_written, written_same}
+use Rattle.vector.proofs.Replaced.{replaced_again, at_written, written_same}
 use Rattle.vector.proofs.Sums.{fold_same}
 use Rattle.accept.specs.Tables.{number_at}
 use Rattle.transfer.specs.Room.{Room, Light, light_of}
 use Rattle.solve.specs.Bounce.{member_light, cluster_light, link_light, row_light, rad_of, new_irr, new_rad, bounce, step, greatest_step, change}
-use Rattle.transfer.specs.Needs.{RowsHeld, Accepted}
-use Rattle.transfer.proofs.Acceptance.{rows_held_also}
+use Rattle.transfer.specs.Needs.{Accepted}
 
 -- the clusters' light that a bounce from the light l starts with
 abbrev pub clusters_light : Room → Light → ℕ → Vec3
@@ -30,9 +28,6 @@ written_again f g = replaced_again 3 (λ i. components (f i)) (λ i. components 
 -- a room that is accepted, and `power`, its irr with the surfels' power stored
 module _ {r : Room} {l : Light} {s power : List Float} (ok : Accepted r l s) (stored : power ≡ written (member_light r.area l.rad) r.n l.irr) where
   -- it has each surfel's
-  pub power_held : 3 * r.n ≤ length power
-  power_held = let e = ap length stored ∙ length_written (member_light r.area l.rad) r.n l.irr ok.irrs in omega (arith, e, ok.irrs)
-
   pub power_at : (i : ℕ) → i < r.n → vec_at power i ≡ member_light r.area l.rad i
   power_at i h = ap (λ (d : List Float). vec_at d i) stored ∙ at_written (member_light r.area l.rad) r.n i l.irr h
 
@@ -42,12 +37,8 @@ module _ {r : Room} {l : Light} {s power : List Float} (ok : Accepted r l s) (st
 
 -- a room that is accepted, and `light`, the list s with its clusters' light stored
 module _ {r : Room} {l : Light} {s light : List Float} (ok : Accepted r l s) (stored : light ≡ written (clusters_light r l) r.clusters.nc s) where
-  -- the rows find that light in the list
-  pub rows_held_after : RowsHeld r.n r.clusters.nc r.rows light
-  rows_held_after = rows_held_also light (ap length stored ∙ length_written (clusters_light r l) r.clusters.nc s ok.rows_held.each.lights) ok.rows_held
-
   -- each link reads its cluster's light
-  links_agree : (k : ℕ) → k < r.rows.links → link_light r.rows.cluster r.rows.weight (vec_at light) k ≡ link_light r.rows.cluster r.rows.weight (clusters_light r l) k
+  links_agree : (k : ℕ) → k < r.rows.links → link_light r.rows (vec_at light) k ≡ link_light r.rows (clusters_light r l) k
   links_agree k h =
       let c = number_at r.rows.cluster k in
       ap (λ (v : Vec3). scaled v (float_at r.rows.weight k))
@@ -63,11 +54,7 @@ module _ {r : Room} {l : Light} {s light : List Float} (ok : Accepted r l s) (st
 
   -- irr as the rows write it
   module _ {irr : List Float} (brought : irr ≡ written (row_light r.rows (vec_at light)) r.n l.irr) where
-    -- it has the surfels
-    pub irr_held : 3 * r.n ≤ length irr
-    irr_held = let e = ap length brought ∙ length_written (row_light r.rows (vec_at light)) r.n l.irr ok.irrs in omega (arith, e, ok.irrs)
-
-    -- and gives the new rad
+    -- it gives the new rad
     rad_agrees : (i : ℕ) → i < r.n → rad_of r.direct r.albedo i (vec_at irr i) ≡ new_rad r l.rad i
     unfolding new_rad
     rad_agrees i h =

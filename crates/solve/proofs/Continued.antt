@@ -8,16 +8,16 @@ use lib.Ieee.{Float}
 use lib.ListN.{length, take, length-take}
 use lib.Seq.{take-take}
 use Rattle.accept.specs.Limits.{max_bounces}
-use Rattle.solve.specs.declared.SolveAnswer.TheVariants.{Done}
+use Rattle.std.specs.Prelude.{Ok}
 use Rattle.transfer.specs.Room.{Room}
 use Rattle.solve.specs.Runs.{no_bounce, stopped}
-use Rattle.transfer.specs.Checks.{refusal}
+use Rattle.transfer.specs.Checks.{check}
 use Rattle.solve.specs.Calls.{surfels, LitRoom, Call, left, cut}
 use Rattle.solve.specs.Continuation.{Made, limits, Chain, taken, one_run, whole, Answers, Kept, PastKept, Each, IfRefused, IfRun, Continuation}
 use Rattle.solve.proofs.Trimmed.{run_past, clusters_past}
-use Rattle.solve.proofs.Refusals.{refusal_cut, also_accepted}
+use Rattle.solve.proofs.Refusals.{check_cut, also_accepted}
 use Rattle.solve.proofs.Onward.{run_onward}
-use Rattle.solve.proofs.Joining.{refused_by, run_from, Ran, RefusedCall, ran, outcome_of, made_of, ran_accepted, ran_answer, ran_left, chain_ran, chain_refused, goes_on}
+use Rattle.solve.proofs.Joining.{checked_call, run_from, Ran, RefusedCall, ran, outcome_of, made_of, ran_accepted, ran_answer, ran_left, chain_ran, chain_refused, goes_on}
 
 -- ---- each call
 
@@ -78,19 +78,19 @@ longer_held h g e held =
 
 -- where a run is not refused, neither is its limit in a room that is the same when cut to its need
 same_accepted : (c : Call) (h : LitRoom) (r : Room) → Ran c → (cut c.handed).room ≡ r → (cut h).room ≡ r
-    → refusal h.room c.limit (length c.handed.light.irr) (length c.handed.light.rad) (length c.scratch) ≡ 0
+    → check h.room c.limit (length c.handed.light.irr) (length c.handed.light.rad) (length c.scratch) ≡ Ok tt
 same_accepted c h r w e d =
     let i = length c.handed.light.irr in
     let b = length c.handed.light.rad in
     let s = length c.scratch in
-    sym (refusal_cut h.room c.limit i b s)
-    ∙ ap (λ (x : Room). refusal x c.limit i b s) (d ∙ sym e)
-    ∙ refusal_cut c.handed.room c.limit i b s
+    sym (check_cut h.room c.limit i b s)
+    ∙ ap (λ (x : Room). check x c.limit i b s) (d ∙ sym e)
+    ∙ check_cut c.handed.room c.limit i b s
     ∙ w.none
 
 -- and neither is a total of at most 4,096 there, with that run's scratch
 whole_accepted : (c : Call) (h g : LitRoom) (m : ℕ) → Ran c → (cut c.handed).room ≡ g.room → cut h ≡ g → LightHeld g → m ≤ max_bounces
-    → refused_by (whole h m c.scratch) ≡ 0
+    → checked_call (whole h m c.scratch) ≡ Ok tt
 whole_accepted c h g m w e d held few =
     let k = longer_held h g d held in
     also_accepted h.room c.limit (length c.handed.light.irr) (length c.handed.light.rad) (length c.scratch) m (length h.light.irr)
@@ -100,7 +100,7 @@ whole_accepted c h g m w e d held few =
 whole_answers : (h g : LitRoom) (m : ℕ) (s : List Float) (q : Made) → cut h ≡ g → one_run g m ≡ q → Ran (whole h m s) → Answers (whole h m s) q
 whole_answers h g m s q d e w =
     record {
-      answer = ran_answer (whole h m s) g w d ∙ ap (λ (x : Made). Done (record { bounces = x.bounces; change = x.last })) e;
+      answer = ran_answer (whole h m s) g w d ∙ ap (λ (x : Made). Ok (record { bounces = x.bounces; change = x.last })) e;
       surfels_left = ap (λ (x : LitRoom). surfels x) (ran_left (whole h m s) g w d) ∙ ap (λ (x : Made). x.surfels) e;
     }
 

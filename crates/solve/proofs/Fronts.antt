@@ -1,15 +1,14 @@
 -- A list written from two places on at once, the front and the middle: what the loop over the rows keeps, and where it ends. Assumes nothing.
 use mathlib.Core.Bool.{Bool, true, false}
 use mathlib.Core.List.{List, ◌++◌}
-use mathlib.Core.Logic.{⊎_elim}
 use mathlib.Core.Path.{◌≡◌, refl, sym, ap, subst, ◌∙◌}
 use Prim.Native.Nat.{ℕ, ◌+◌, ◌-◌, ◌*◌, ◌<◌, ◌≤◌}
-use native.Mathlib.Nat.{eq-or-lt_of_le}
 use native.Mathlib.Omega.{arith}
 use lib.Dec.{leb}
 use lib.Ieee.{Float}
 use lib.ListN.{length, drop}
 use lib.Seq.{length-sets}
+use borrow.Author.Count.{below_more}
 use borrow.Author.Tests.{leb-true, leb-false}
 use Rattle.vector.specs.declared.Vec3.{Vec3}
 use Rattle.vector.specs.Flat.{vec_at, put_at, components, rows, replaced, written}
@@ -24,14 +23,6 @@ pub record Fronts (g : ℕ → Vec3) (n middle i : ℕ) (l₀ l : List Float) : 
   pub kept : length l ≡ length l₀
 
 module _ (g : ℕ → Vec3) (n middle : ℕ) (l₀ : List Float) where
-  -- none is written yet
-  pub fronts_none : Fronts g n middle 0 l₀ l₀
-  fronts_none = record { front = λ j h. absurd (omega arith); back = λ j h. absurd (omega arith); past = refl; kept = refl }
-
-  -- what holds at each place below i, and at i, holds below i + 1
-  below_more : (P : ℕ → Type 0) (i : ℕ) → ((j : ℕ) → j < i → P j) → P i → (j : ℕ) → j < i + 1 → P j
-  below_more P i h p j k = ⊎_elim (λ e. subst P (sym e) p) (λ l. h j l) (eq-or-lt_of_le {n = j} {m = i} (omega arith))
-
   -- v is stored next from the front on, and then w from the middle on
   pub fronts_more : (i : ℕ) {l d e : List Float} {v w : Vec3} → Fronts g n middle i l₀ l → i < n → middle + i < n → 3 * n ≤ length l₀
       → v ≡ g i → w ≡ g (middle + i) → d ≡ put_at l i v → e ≡ put_at d (middle + i) w → Fronts g n middle (i + 1) l₀ e

@@ -3,13 +3,13 @@ use mathlib.Core.Bool.{Bool, true, false, cond}
 use mathlib.Core.List.{List, [], ◌∷◌}
 use mathlib.Core.Logic.{◌⊎◌, inl, inr, ⊎_elim}
 use mathlib.Core.Path.{◌≡◌, refl, sym, ap, subst, ◌∙◌}
-use Prim.Native.Nat.{ℕ, zero, suc, ◌+◌}
+use Prim.Native.Nat.{ℕ, ◌+◌}
 use native.Mathlib.Nat.{zero-add}
-use lib.Dec.{eqb-suc-zero}
 use lib.ListN.{length}
-use Rattle.solve.specs.declared.SolveAnswer.TheVariants.{Refused, Done}
+use Rattle.std.specs.Prelude.{Result, Ok, Err}
+use Rattle.accept.specs.declared.refusal.Refusal.{Refusal}
 use Rattle.solve.specs.Runs.{Run, onward, run, clusters_after}
-use Rattle.transfer.specs.Checks.{refusal}
+use Rattle.transfer.specs.Checks.{check}
 use Rattle.transfer.specs.Needs.{Accepted}
 use Rattle.solve.specs.Answers.{stats_of, solve_answer}
 use Rattle.solve.specs.Calls.{surfels, LitRoom, with_light, Call, outcome, left, cut}
@@ -20,9 +20,9 @@ use Rattle.solve.proofs.Onward.{has_stopped, joined_run, stopped_joined, onward_
 
 -- ---- what a call does
 
--- the number that refuses a call, 0 if none does
-abbrev pub refused_by : Call → ℕ
-refused_by c = refusal c.handed.room c.limit (length c.handed.light.irr) (length c.handed.light.rad) (length c.scratch)
+-- why a call is refused, if it is
+abbrev pub checked_call : Call → Result Unit Refusal
+checked_call c = check c.handed.room c.limit (length c.handed.light.irr) (length c.handed.light.rad) (length c.scratch)
 
 -- the run of a room, with its light
 abbrev pub run_from : LitRoom → ℕ → Run
@@ -30,29 +30,29 @@ run_from g m = run g.room m g.light
 
 -- a call that is not refused: it answers and leaves what the run of its room makes
 pub record Ran (c : Call) : Type 0 where
-  pub none : refused_by c ≡ 0
+  pub none : checked_call c ≡ Ok tt
   pub made : let q = run_from c.handed c.limit in
-      outcome c ≡ (Done (stats_of q), q.light, clusters_after c.handed.room q.bounces c.handed.light c.scratch)
+      outcome c ≡ (Ok (stats_of q), q.light, clusters_after c.handed.room q.bounces c.handed.light c.scratch)
 
 -- a call that is refused: it leaves the light and the scratch
 pub record RefusedCall (c : Call) : Type 0 where
-  pub number : ℕ
-  pub made : outcome c ≡ (Refused number, c.handed.light, c.scratch)
+  pub refusal : Refusal
+  pub made : outcome c ≡ (Err refusal, c.handed.light, c.scratch)
 
--- a call whose number is 0 is not refused
-pub ran : (c : Call) → refused_by c ≡ 0 → Ran c
+-- a call that passes the tests is not refused
+pub ran : (c : Call) → checked_call c ≡ Ok tt → Ran c
 unfolding solve_answer
 ran c e = record { none = e; made = rw e }
 
--- the law below, by the call's number
-outcome_by : (c : Call) (k : ℕ) → refused_by c ≡ k → Ran c ⊎ RefusedCall c
+-- the law below, by what the tests say
+outcome_by : (c : Call) (k : Result Unit Refusal) → checked_call c ≡ k → Ran c ⊎ RefusedCall c
 unfolding solve_answer
-outcome_by c zero e = inl (ran c e)
-outcome_by c (suc k) e = inr (record { number = suc k; made = rw (e, eqb-suc-zero) })
+outcome_by c (Ok u) e = inl (ran c e)
+outcome_by c (Err refusal) e = inr (record { refusal = refusal; made = rw e })
 
 -- every call is the one or the other
 pub outcome_of : (c : Call) → Ran c ⊎ RefusedCall c
-outcome_of c = outcome_by c (refused_by c) refl
+outcome_of c = outcome_by c (checked_call c) refl
 
 -- ---- a call of a list
 
@@ -69,8 +69,8 @@ run_of_cut : (c : Call) → Ran c → run_from (cut c.handed) c.limit ≡ cut_ru
 run_of_cut c w = run_cut c.handed.room c.limit c.handed.light c.scratch (ran_accepted c w)
 
 -- a call that is not refused, in the room g but for what lies past the need, answers what g's run made
-pub ran_answer : (c : Call) (g : LitRoom) → Ran c → cut c.handed ≡ g → (outcome c).0 ≡ Done (stats_of (run_from g c.limit))
-ran_answer c g w e = rw w.made (ap (λ (q : Run). Done (stats_of q)) (sym (run_of_cut c w)) ∙ ap (λ (x : LitRoom). Done (stats_of (run_from x c.limit))) e)
+pub ran_answer : (c : Call) (g : LitRoom) → Ran c → cut c.handed ≡ g → (outcome c).0 ≡ Ok (stats_of (run_from g c.limit))
+ran_answer c g w e = rw w.made (ap (λ (q : Run). Ok (stats_of q)) (sym (run_of_cut c w)) ∙ ap (λ (x : LitRoom). Ok (stats_of (run_from x c.limit))) e)
 
 -- and leaves what g's run leaves
 pub ran_left : (c : Call) (g : LitRoom) → Ran c → cut c.handed ≡ g → cut (left c) ≡ with_light g (run_from g c.limit).light

@@ -1,10 +1,9 @@
 -- The light of one cluster and of one row, and the greatest step with one vector more: what the loops over clusters and surfels cite. Assumes nothing.
 use mathlib.Core.List.{List}
 use mathlib.Core.Path.{◌≡◌, ◌∙◌}
-use Prim.Native.Nat.{ℕ, ◌+◌, ◌*◌, ◌-◌, ◌<◌, ◌≤◌}
+use Prim.Native.Nat.{ℕ, ◌+◌, ◌-◌, ◌<◌}
 use native.Mathlib.Omega.{arith}
 use lib.Ieee.{Float}
-use lib.ListN.{length}
 use Rattle.float.specs.Arithmetic.{0f}
 use Rattle.float.specs.Column.{float_at}
 use Rattle.float.specs.Order.{greater}
@@ -15,7 +14,7 @@ use Rattle.vector.specs.Vector.{plus, zero_vec, over}
 use Rattle.vector.proofs.Sums.{fold_none, fold_more, fold_same}
 use Rattle.accept.specs.Tables.{number_at}
 use Rattle.transfer.specs.Room.{Clusters, Rows}
-use Rattle.transfer.specs.Needs.{ClustersHeld, LinksHeld, RowsHeld}
+use Rattle.transfer.specs.Needs.{ClustersHeld}
 use Rattle.solve.specs.Bounce.{least_area, member_light, cluster_light, link_light, row_light, step, greatest_step}
 
 -- the sum s over the members from `from` on, divided by the larger of the area and 1e-12, is the cluster's light
@@ -41,24 +40,11 @@ power_summed cs area rad power held each c h {from} p q r =
     let end = held.inside c h in
     r ∙ fold_same plus zero_vec _ _ _ (λ j k. each (number_at cs.member (from + j)) (held.each.below (from + j) (omega (arith, end, p, q, k))))
 
--- a link has its number, its weight and its cluster's light
-pub link_held : {nc links : ℕ} {cluster : List ℕ} {weight light : List Float} → LinksHeld nc links cluster weight light
-    → (k : ℕ) → k < links → (k < length cluster) × ((k < length weight) × (3 * number_at cluster k + 2 < length light))
-link_held h k e = (omega (arith, h.clusters, e), (omega (arith, h.weights, e), omega (arith, h.below k e, h.lights)))
-
--- a row begins before it ends, and so many of its links are among the links
-pub row_held : {n nc : ℕ} {rs : Rows} {light : List Float} → RowsHeld n nc rs light → (i : ℕ) → i < n → {from to : ℕ}
-    → from ≡ number_at rs.starts i → to ≡ number_at rs.starts (i + 1) → (from ≤ to) × ((m : ℕ) → m ≤ to - from → from + m ≤ rs.links)
-row_held h i e p q =
-    let up = h.rising i e in
-    let end = h.inside (i + 1) (omega (arith, e)) in
-    (omega (arith, up, p, q), λ m k. omega (arith, up, end, p, q, k))
-
 -- the sum s over the links from one start up to the next is what the row brings
 pub row_light_by : (rs : Rows) (light : ℕ → Vec3) (i : ℕ) {from to : ℕ} {s : Vec3}
     → from ≡ number_at rs.starts i
     → to ≡ number_at rs.starts (i + 1)
-    → s ≡ total (λ j. link_light rs.cluster rs.weight light (from + j)) (to - from)
+    → s ≡ total (λ j. link_light rs light (from + j)) (to - from)
     → s ≡ row_light rs light i
 unfolding row_light
 row_light_by rs light i p q r = rw (r, p, q)

@@ -58,7 +58,7 @@ row_cut n nc rs s light other held same i h =
     let to = number_at rs.starts (i + 1) in
     let inside = held.inside (i + 1) (omega arith) in
     rw (number_cut (n + 1) rs.starts i (omega arith), number_cut (n + 1) rs.starts (i + 1) (omega arith))
-    (fold_same plus zero_vec _ (λ j. link_light rs.cluster rs.weight other (from + j)) (to - from)
+    (fold_same plus zero_vec _ (λ j. link_light rs other (from + j)) (to - from)
     (λ j k.
     let c = number_at rs.cluster (from + j) in
     rw (
@@ -159,12 +159,3 @@ pub clusters_past : (r : Room) (k : ℕ) (l : Light) (s : List Float) → drop (
 unfolding clusters_after
 clusters_past r zero l s = refl
 clusters_past r (suc k) l s = written_past (cluster_light r.clusters r.area (bounced r k l).rad) r.clusters.nc s
-
--- the lengths of irr and rad
-pub length_run : (r : Room) (m : ℕ) (l : Light) (s : List Float) → Accepted r l s
-    → (length (run r m l).light.irr ≡ length l.irr) × (length (run r m l).light.rad ≡ length l.rad)
-length_run r m l s a =
-    run_keeps r (λ k. (length k.irr ≡ length l.irr) × (length k.rad ≡ length l.rad))
-    (λ k h.
-    let p = length_bounce r k (rw h.0 a.irrs) (rw h.1 a.clusters_held.each.rads) in
-    (p.0 ∙ h.0, p.1 ∙ h.1)) m l (refl, refl)

@@ -27,14 +27,14 @@ cluster_light cs area rad c =
     (greater (float_at cs.area c) least_area)
 
 -- what link k brings of the clusters' light: that of its cluster × its weight
-abbrev pub link_light : List ℕ → List Float → (ℕ → Vec3) → ℕ → Vec3
-link_light cluster weight light k = scaled (light (number_at cluster k)) (float_at weight k)
+abbrev pub link_light : Rows → (ℕ → Vec3) → ℕ → Vec3
+link_light rs light k = scaled (light (number_at rs.cluster k)) (float_at rs.weight k)
 
 -- what row i brings of it: the sum over its links
 unfoldable pub row_light : Rows → (ℕ → Vec3) → ℕ → Vec3
 row_light rs light i =
     let from = number_at rs.starts i in
-    total (λ j. link_light rs.cluster rs.weight light (from + j)) (number_at rs.starts (i + 1) - from)
+    total (λ j. link_light rs light (from + j)) (number_at rs.starts (i + 1) - from)
 
 -- surfel i's rad, of its direct light, its albedo and its irr: direct + albedo × irr
 abbrev pub rad_of : List Float → List Float → ℕ → Vec3 → Vec3

@@ -1,7 +1,8 @@
 -- Solves as the continuation law speaks of them: document 01, 'The solve', and demand 3. A call is all that the entry can be handed, as lent, with the fields of the surfels that it
 -- is not handed; what it does is `solve_answer`, which the entry's contract equates with the code. Definitions only.
-use Rattle.std.specs.Prelude.{List, ℕ, ◌+◌, ◌*◌, Float, take}
-use Rattle.solve.specs.declared.SolveAnswer.{SolveAnswer}
+use Rattle.std.specs.Prelude.{List, ℕ, ◌+◌, ◌*◌, Float, take, Result}
+use Rattle.accept.specs.declared.refusal.Refusal.{Refusal}
+use Rattle.solve.specs.declared.SolveStats.{SolveStats}
 use Rattle.transfer.specs.Room.{Clusters, Rows, Room, Light}
 use Rattle.solve.specs.Answers.{solve_answer}
 
@@ -46,7 +47,7 @@ pub record Call : Type 0 where
   pub scratch : List Float
 
 -- what it answers, the light that it leaves, and the scratch
-abbrev pub outcome : Call → SolveAnswer × Light × List Float
+abbrev pub outcome : Call → Result SolveStats Refusal × Light × List Float
 outcome c = solve_answer c.handed.room c.limit c.handed.light c.scratch
 
 -- the room as it leaves it: the entry can write no other list

@@ -1,10 +1,10 @@
 -- The continuation law, demand 3: any list of solves of a room, refused ones included, against one run of their total. Definitions and the statement only; its proof is
 -- `continuation` in proofs/Continued. Beside each part stand the words that it writes down.
-use Rattle.std.specs.Prelude.{cond, List, [], ◌∷◌, ◌++◌, ◌≡◌, ℕ, ◌+◌, ◌*◌, ◌≤◌, eqb, Float, drop}
+use Rattle.std.specs.Prelude.{cond, List, [], ◌∷◌, ◌++◌, ◌≡◌, ℕ, ◌+◌, ◌*◌, ◌≤◌, eqb, Float, drop, Result, Ok, Err}
 use Rattle.float.specs.Arithmetic.{0f}
 use Rattle.accept.specs.Limits.{max_bounces}
-use Rattle.solve.specs.declared.SolveAnswer.{SolveAnswer}
-use Rattle.solve.specs.declared.SolveAnswer.TheVariants.{Refused, Done}
+use Rattle.accept.specs.declared.refusal.Refusal.{Refusal}
+use Rattle.solve.specs.declared.SolveStats.{SolveStats}
 use Rattle.solve.specs.Runs.{stopped, run}
 use Rattle.solve.specs.Calls.{Surfels, surfels, LitRoom, with_light, Call, outcome, left, cut}
 
@@ -15,27 +15,27 @@ pub record Made : Type 0 where
   pub surfels : Surfels
 
 -- "The list's runs are the solves not refused": what each made, in the order of the list, its surfels cut to their need
-abbrev pub run_by : SolveAnswer → Surfels → List Made
-run_by (Refused number) s = []
-run_by (Done made) s = record { bounces = made.bounces; last = made.change; surfels = s } ∷ []
+abbrev pub run_by : Result SolveStats Refusal → Surfels → List Made
+run_by (Err refusal) s = []
+run_by (Ok made) s = record { bounces = made.bounces; last = made.change; surfels = s } ∷ []
 
 abbrev pub runs : List Call → List Made
 runs [] = []
 runs (c ∷ cs) = run_by (outcome c).0 (surfels (cut (left c))) ++ runs cs
 
 -- "the whole list's total": the limits of the runs added up; of a refused solve "its limit isn't counted"
-abbrev pub limit_by : SolveAnswer → ℕ → ℕ
-limit_by (Refused number) limit = 0
-limit_by (Done made) limit = limit
+abbrev pub limit_by : Result SolveStats Refusal → ℕ → ℕ
+limit_by (Err refusal) limit = 0
+limit_by (Ok made) limit = limit
 
 abbrev pub limits : List Call → ℕ
 limits [] = 0
 limits (c ∷ cs) = limit_by (outcome c).0 c.limit + limits cs
 
 -- of two claims, the one for a refused answer or the one for a run
-abbrev pub ByAnswer : SolveAnswer → Type 0 → Type 0 → Type 0
-ByAnswer (Refused number) refused ran = refused
-ByAnswer (Done made) refused ran = ran
+abbrev pub ByAnswer : Result SolveStats Refusal → Type 0 → Type 0 → Type 0
+ByAnswer (Err refusal) refused ran = refused
+ByAnswer (Ok made) refused ran = ran
 
 -- "the first starts from the room as given, each later one from the surfels the run before it left, and nobody else writes these meanwhile"; "the solves that aren't refused get
 -- the same room, all but irr and rad, and any scratch; a refused one may be handed anything, other surfels too, and the next goes on from the room's own". Rooms are compared as
@@ -77,7 +77,7 @@ whole h m s = record { handed = h; limit = m; scratch = s }
 
 -- a call answers q, and leaves its surfels, cut to their need
 pub record Answers (c : Call) (q : Made) : Type 0 where
-  pub answer : (outcome c).0 ≡ Done (record { bounces = q.bounces; change = q.last })
+  pub answer : (outcome c).0 ≡ Ok (record { bounces = q.bounces; change = q.last })
   pub surfels_left : surfels (cut (left c)) ≡ q.surfels
 
 -- "A refused solve leaves every surfel as it was", as lent; and its scratch

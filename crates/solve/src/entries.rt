@@ -1,82 +1,29 @@
 // The solve.
 ghost use Rattle.std.specs.Prelude.{◌≡◌};
-ghost use Rattle.transfer.specs.Room.{room_in, light_in, light_out};
+ghost use Rattle.transfer.specs.Room.{light_in, light_out};
 ghost use Rattle.solve.specs.Answers.{solve_answer};
 
-use crate::SolveAnswer;
+use crate::SolveStats;
 use crate::running::run;
-use transfer::refusal;
+use accept::Refusal;
+use transfer::{Room, check};
 
-// Bounces the light of n surfels until the last change is under 0.0001 or the limit is made, or
-// refuses the call by document 01's number and then writes nothing. irr becomes the irradiance of
-// the last bounce, rad the light that each surfel then gives off, and scratch, three floats a
-// cluster, the clusters' light of the last bounce. If no bounce is made, all three stay as lent.
+// Bounces the light of the room's surfels until the last change is under 0.0001 or the limit is made,
+// or refuses the call and then writes nothing. irr becomes the irradiance of the last bounce, rad the
+// light that each surfel then gives off, and scratch, three floats a cluster, the clusters' light of
+// the last bounce. If no bounce is made, all three stay as lent.
+//
+// Kept: irr, rad and scratch, which are written, stay parameters, since each function that took a struct
+// of them would have to promise as well that it still holds the same three lists.
 pub fn solve(
-    n: usize,
-    nc: usize,
-    members: usize,
-    links: usize,
+    room: &Room,
     limit: usize,
-    albedo: &[f32],
-    area: &[f32],
-    direct: &[f32],
-    cluster_area: &[f32],
-    first: &[u32],
-    count: &[u32],
-    member: &[u32],
-    starts: &[u32],
-    link_cluster: &[u32],
-    link_weight: &[f32],
     irr: &mut [f32],
     rad: &mut [f32],
     scratch: &mut [f32],
-) -> SolveAnswer
-    ensures { (result, light_out irr rad, scratch.new)
-        ≡ solve_answer (room_in n nc members links albedo area direct cluster_area first count member starts link_cluster link_weight) limit
-        (light_in irr rad) scratch.old }
+) -> Result<SolveStats, Refusal>
+    ensures { (result, light_out irr rad, scratch.new) ≡ solve_answer room.now limit (light_in irr rad) scratch.old }
 {
-    let number = refusal(
-        n,
-        nc,
-        members,
-        links,
-        limit,
-        albedo,
-        area,
-        direct,
-        cluster_area,
-        first,
-        count,
-        member,
-        starts,
-        link_cluster,
-        link_weight,
-        irr.len(),
-        rad.len(),
-        scratch.len(),
-    );
-    if number == 0 {
-        SolveAnswer::Done(run(
-            n,
-            nc,
-            members,
-            links,
-            limit,
-            albedo,
-            area,
-            direct,
-            cluster_area,
-            first,
-            count,
-            member,
-            starts,
-            link_cluster,
-            link_weight,
-            irr,
-            rad,
-            scratch,
-        ))
-    } else {
-        SolveAnswer::Refused(number)
-    }
+    check(room, limit, irr.len(), rad.len(), scratch.len())?;
+    Ok(run(room, limit, irr, rad, scratch))
 }

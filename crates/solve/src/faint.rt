@@ -4,6 +4,7 @@
 ghost use Rattle.std.specs.Prelude.{◌≡◌, ◌*◌, ◌≤◌, length};
 ghost use Rattle.vector.specs.Vector.{scaled, times, over};
 
+use transfer::Room;
 use vector::Vec3;
 
 // 2^-60: a product of two floats from it on is not subnormal, nor is one of them divided by 1e12.
@@ -13,23 +14,18 @@ const AMPLE: f32 = 8.6736174e-19;
 pub fn any_faint(s: &[f32], count: usize) -> bool
     requires { count ≤ length s.now }
 {
-    let mut found = false;
-    let mut k = 0;
-    while k < count {
-        let x = s[k];
-        found = found | ((0.0 < x) & (x < AMPLE));
-        k += 1;
-    }
-    found
+    s[..count].iter().any(|x| (0.0 < *x) & (*x < AMPLE))
 }
 
 // Whether a weight, an area or a channel of albedo of a room is faint.
-pub fn faint_room(n: usize, links: usize, albedo: &[f32], area: &[f32], link_weight: &[f32]) -> bool
-    requires links_in_bounds { links ≤ length link_weight.now }
-    requires n_in_bounds { n ≤ length area.now }
-    requires n_in_bounds_2 { 3 * n ≤ length albedo.now }
+pub fn faint_room(room: &Room) -> bool
+    requires links_in_bounds { room.now.rows.links ≤ length room.now.rows.weight }
+    requires n_in_bounds { room.now.n ≤ length room.now.area }
+    requires n_in_bounds_2 { 3 * room.now.n ≤ length room.now.albedo }
 {
-    any_faint(link_weight, links) | any_faint(area, n) | any_faint(albedo, 3 * n)
+    any_faint(room.rows.weight, room.rows.links)
+        | any_faint(room.area, room.n)
+        | any_faint(room.albedo, 3 * room.n)
 }
 
 // Each component times k. `faint` tells whether one of these floats may be faint: the time depends on

@@ -2,98 +2,64 @@
 ghost use Rattle.std.specs.Prelude.{◌≡◌, ◌+◌, ◌*◌, ◌<◌, ◌≤◌, length};
 ghost use Rattle.vector.specs.Flat.{vec_at, written};
 ghost use Rattle.vector.specs.Fold.{total};
-ghost use Rattle.accept.specs.Tables.{number_at};
-ghost use Rattle.transfer.specs.Room.{rows_of, rows_in};
 ghost use Rattle.solve.specs.Channels.{channel};
+ghost use Rattle.solve.specs.Lit.{rows_lit};
 ghost use Rattle.solve.specs.Bounce.{link_light, row_light};
-ghost use Rattle.transfer.specs.Needs.{LinksHeld, RowsHeld};
 
+use crate::rows::LitRows;
 use accept::wide;
 use vector::Vec3;
 
-// Every surfel's irr, in good time where something is faint.
-pub fn faint_irr(
-    n: usize,
-    nc: usize,
-    links: usize,
-    starts: &[u32],
-    link_cluster: &[u32],
-    link_weight: &[f32],
-    light: &[f32],
-    irr: &mut [f32],
-)
-    requires rows_held { RowsHeld n nc (rows_of links starts.now link_cluster.now link_weight.now) light.now }
-    requires n_in_bounds { 3 * n ≤ length irr.old }
-    ensures { irr.new
-        ≡ written (row_light (rows_in links starts link_cluster link_weight) (vec_at light.now)) n irr.old }
-{
-    let mut i = 0;
-    while i < n {
-        let from = wide(starts[i]);
-        let count = wide(starts[i + 1]) - from;
-        let sum = faint_row(nc, links, link_cluster, link_weight, light, from, count);
-        vector::put(irr, i, sum);
-        i += 1;
+// Kept: one loop for both, which takes each link's vector times its weight by this product, took 1.3
+// times as long where light is faint.
+impl LitRows<'_> {
+    // Every surfel's irr, in good time where something is faint.
+    pub fn faint_irr(&self, irr: &mut [f32])
+        requires { 3 * self.now.n ≤ length irr.old }
+        ensures { irr.new
+            ≡ written (row_light (rows_lit self.now) (vec_at self.now.light.now)) self.now.n irr.old }
+    {
+        for i in 0..self.n {
+            let from = wide(self.starts[i]);
+            let count = wide(self.starts[i + 1]) - from;
+            vector::put(irr, i, self.faint_row(from, count));
+        }
     }
-}
 
-// The sum over so many links from one of them on, channel by channel.
-fn faint_row(
-    nc: usize,
-    links: usize,
-    link_cluster: &[u32],
-    link_weight: &[f32],
-    light: &[f32],
-    from: usize,
-    count: usize,
-) -> Vec3
-    requires count_bound { from + count ≤ links }
-    requires links_held { LinksHeld nc links link_cluster.now link_weight.now light.now }
-    ensures { result
-        ≡ total (λ j. link_light link_cluster.now link_weight.now (vec_at light.now) (from + j)) count }
-{
-    Vec3 {
-        x: faint_channel(nc, links, link_cluster, link_weight, light, from, count, 0),
-        y: faint_channel(nc, links, link_cluster, link_weight, light, from, count, 1),
-        z: faint_channel(nc, links, link_cluster, link_weight, light, from, count, 2),
+    // The sum over so many links from one of them on, channel by channel.
+    fn faint_row(&self, from: usize, count: usize) -> Vec3
+        requires { from + count ≤ self.now.links }
+        ensures { result ≡ total (λ j. link_light (rows_lit self.now) (vec_at self.now.light.now) (from + j)) count }
+    {
+        Vec3 {
+            x: self.faint_channel(from, count, 0),
+            y: self.faint_channel(from, count, 1),
+            z: self.faint_channel(from, count, 2),
+        }
     }
-}
 
-// Channel d of the sum over so many links from one of them on.
-fn faint_channel(
-    nc: usize,
-    links: usize,
-    link_cluster: &[u32],
-    link_weight: &[f32],
-    light: &[f32],
-    from: usize,
-    count: usize,
-    d: usize,
-) -> f32
-    requires count_bound { from + count ≤ links }
-    requires links_held { LinksHeld nc links link_cluster.now link_weight.now light.now }
-    requires d_bound { d < 3 }
-    ensures { result
-        ≡ channel d (total (λ j. link_light link_cluster.now link_weight.now (vec_at light.now) (from + j)) count) }
-{
-    let mut sum = 0.0;
-    let mut j = 0;
-    while j < count {
-        sum = sum + faint_link(link_cluster, link_weight, light, from + j, d);
-        j += 1;
+    // Channel d of the sum over so many links from one of them on.
+    #[tactic(auto, using(crate::proofs::Channelled::channel_none, crate::proofs::Channelled::channel_more))]
+    fn faint_channel(&self, from: usize, count: usize, d: usize) -> f32
+        requires count_bound { from + count ≤ self.now.links }
+        requires d_bound { d < 3 }
+        ensures { result
+            ≡ channel d (total (λ j. link_light (rows_lit self.now) (vec_at self.now.light.now) (from + j)) count) }
+    {
+        let mut sum = 0.0;
+        for j in 0..count {
+            sum = sum + self.faint_link(from + j, d);
+        }
+        sum
     }
-    sum
-}
 
-// Channel d of what link k brings: of the light of its cluster times its weight.
-fn faint_link(link_cluster: &[u32], link_weight: &[f32], light: &[f32], k: usize, d: usize) -> f32
-    requires k_in_bounds { k < length link_cluster.now }
-    requires k_in_bounds_2 { k < length link_weight.now }
-    requires k_in_bounds_3 { 3 * number_at link_cluster.now k + 2 < length light.now }
-    requires d_bound { d < 3 }
-    ensures { result
-        ≡ channel d (link_light link_cluster.now link_weight.now (vec_at light.now) k) }
-{
-    let c = wide(link_cluster[k]);
-    subnormal::product(light[3 * c + d], link_weight[k])
+    // Channel d of what link k brings: of the light of its cluster times its weight.
+    fn faint_link(&self, k: usize, d: usize) -> f32
+        requires k_bound { k < self.now.links }
+        requires d_bound { d < 3 }
+        ensures { result ≡ channel d (link_light (rows_lit self.now) (vec_at self.now.light.now) k) }
+    {
+        let c = wide(self.cluster[k]);
+        subnormal::product(self.light[3 * c + d], self.weight[k])
+    }
 }

@@ -1,6 +1,6 @@
 // The solve: light that goes from surfel to surfel, bounce by bounce.
 //
-// The entry refuses by document 01's numbers. No public function has a `requires`.
+// No public function has a `requires`.
 #![tactic(auto)]
 
 mod clusters;
@@ -21,11 +21,4 @@ pub use running::settled;
 pub struct SolveStats {
     pub bounces: usize,
     pub change: f32,
-}
-
-// What a solve answers: refused with a number, or done.
-#[derive(Clone, Copy)]
-pub enum SolveAnswer {
-    Refused(u32),
-    Done(SolveStats),
 }

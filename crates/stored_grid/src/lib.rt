@@ -3,38 +3,14 @@
 // lacking; what has no place is not stored.
 #![tactic(auto)]
 
-mod put;
-mod show;
+mod lent;
 
-use replay::named;
-pub use show::{items, light, list, seen, starts};
-use vector::Vec3;
-
-// How many places of each table are lent.
-#[derive(Clone, Copy)]
-pub struct Lent {
-    pub p: usize,
-    pub normals: usize,
-    pub irr: usize,
-    pub starts: usize,
-    pub items: usize,
-    pub list: usize,
-    pub probe_p: usize,
-    pub probe_normals: usize,
-    pub seen: usize,
-    pub light: usize,
-}
-
-// A box and the size of its cells.
-#[derive(Clone, Copy)]
-pub struct Bounds {
-    pub lo: Vec3,
-    pub hi: Vec3,
-    pub cell: f32,
-}
+use float::of_bits;
+pub use lent::{Bounds, Lent};
+use replay::{Line, Words, put, put_at, shown};
 
 // A box, places for 32 surfels, 520 starts, 32 items, a list of 64, 8 probes and their readings.
-#[derive(Clone, Copy)]
+#[derive(Drop)]
 pub struct Stored {
     pub bounds: Bounds,
     pub p: [f32; 96],
@@ -50,22 +26,11 @@ pub struct Stored {
     pub lent: Lent,
 }
 
-// Whether the line stores something.
-pub fn stores(line: &[u8]) -> bool {
-    named(line, b"box")
-        | named(line, b"surfel")
-        | named(line, b"probe")
-        | named(line, b"lent")
-        | named(line, b"fill")
-        | named(line, b"put_starts")
-        | named(line, b"put_items")
-}
-
 impl Stored {
     // Every place holds zero, and nothing is lent.
     pub fn nothing() -> Stored {
         Stored {
-            bounds: put::bounds([0; 16]),
+            bounds: Bounds::from([0; 16]),
             p: [0.0; 96],
             normals: [0.0; 96],
             irr: [0.0; 96],
@@ -76,35 +41,57 @@ impl Stored {
             probe_normals: [0.0; 24],
             seen: [0; 8],
             light: [0.0; 24],
-            lent: put::lengths([0; 16]),
+            lent: Lent::from([0; 16]),
         }
     }
 
-    // With what the line stores; unchanged where it stores nothing.
-    pub fn with_line(self, line: &[u8]) -> Stored {
-        let operands = replay::operands(line);
-        let w = operands.words;
-        if named(line, b"box") {
-            return self.with_box(w);
+    // Stores what the line says, and answers whether it says something: the box and the size of its
+    // cells; a surfel's number, its point, its normal and its irradiance; a probe's number, its point
+    // and its normal; how many places of each table are lent; one word for every place that a call can
+    // write; starts or items, from the place on that the first word names.
+    pub fn store(&mut self, line: &Line<'_>) -> bool {
+        let w = line.given.padded();
+        let at = 3 * w[0] as usize;
+        match line.name {
+            b"box" => self.bounds = Bounds::from(w),
+            b"surfel" => {
+                put_at(&mut self.p, at, &w[1..4]);
+                put_at(&mut self.normals, at, &w[4..7]);
+                put_at(&mut self.irr, at, &w[7..10]);
+            }
+            b"probe" => {
+                put_at(&mut self.probe_p, at, &w[1..4]);
+                put_at(&mut self.probe_normals, at, &w[4..7]);
+            }
+            b"lent" => self.lent = Lent::from(w),
+            b"fill" => self.fill(w[0]),
+            b"put_starts" => put(&mut self.starts, &line.given),
+            b"put_items" => put(&mut self.items, &line.given),
+            _ => return false,
         }
-        if named(line, b"surfel") {
-            return self.with_surfel(w);
+        true
+    }
+
+    // One word in every place that a call can write.
+    fn fill(&mut self, word: u32) {
+        self.starts.fill(word);
+        self.items.fill(word);
+        self.list.fill(word);
+        self.seen.fill(word);
+        self.light.fill(of_bits(word));
+    }
+
+    // Up to 16 words of the table of this name from place `at` on: where cells begin, the numbers of
+    // the points, the numbers near a point, which probes are seen, the light at the probes. None where
+    // a call writes no such table.
+    pub fn shown(&self, name: &[u8], at: usize) -> Words {
+        match name {
+            b"starts" => shown(&self.starts, at),
+            b"items" => shown(&self.items, at),
+            b"list" => shown(&self.list, at),
+            b"seen" => shown(&self.seen, at),
+            b"light" => shown(&self.light, at),
+            _ => Words::none(),
         }
-        if named(line, b"probe") {
-            return self.with_probe(w);
-        }
-        if named(line, b"lent") {
-            return self.with_lent(w);
-        }
-        if named(line, b"fill") {
-            return self.filled(w);
-        }
-        if named(line, b"put_starts") {
-            return self.with_starts(operands);
-        }
-        if named(line, b"put_items") {
-            return self.with_items(operands);
-        }
-        self
     }
 }

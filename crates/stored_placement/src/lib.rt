@@ -2,30 +2,45 @@
 // it: materials, the columns of surfels, the scratch, and how much of each table is lent.
 #![tactic(auto)]
 
-mod columns;
-mod light;
-mod scratch;
+mod lending;
 
-pub use columns::Columns;
-pub use light::Light;
-use replay::{Words, named, put_floats};
-pub use scratch::Scratch;
+use float::of_bits;
+pub use lending::Lent;
+use replay::{Line, put};
 
-// Places for 16 materials, for 128 surfels and for scratch of 512 cells. A call is lent so many places
-// of kinds, lengths, plane_parts, object_parts; materials; p, n, albedo, area; direct, irr, rad; head,
-// next.
-#[derive(Clone, Copy)]
+// Places for 16 materials, for 128 surfels and for scratch of 512 cells; and how many places of each table
+// a call is lent, those of the scene too.
+#[derive(Drop)]
 pub struct Stored {
     pub materials: [f32; 64],
     pub columns: Columns,
     pub light: Light,
     pub scratch: Scratch,
-    pub lent: [u32; 16],
+    pub lent: Lent,
 }
 
-// Whether the line stores something.
-pub fn stores(line: &[u8]) -> bool {
-    named(line, b"put_materials") | named(line, b"lent") | named(line, b"fill")
+// Columns of surfels: their points, their normals, their albedo and their areas.
+#[derive(Drop)]
+pub struct Columns {
+    pub p: [f32; 384],
+    pub n: [f32; 384],
+    pub albedo: [f32; 384],
+    pub area: [f32; 128],
+}
+
+// The light of surfels: direct, arriving and leaving.
+#[derive(Drop)]
+pub struct Light {
+    pub direct: [f32; 384],
+    pub irr: [f32; 384],
+    pub rad: [f32; 384],
+}
+
+// The scratch of placement: a place for each cell, and one for each surfel.
+#[derive(Drop)]
+pub struct Scratch {
+    pub head: [u32; 512],
+    pub next: [u32; 128],
 }
 
 impl Stored {
@@ -33,46 +48,48 @@ impl Stored {
     pub fn nothing() -> Stored {
         Stored {
             materials: [0.0; 64],
-            columns: Columns::filled(0, 0, 0, 0),
-            light: Light::filled(0, 0, 0),
-            scratch: Scratch::filled(0, 0),
-            lent: [0; 16],
+            columns: Columns {
+                p: [0.0; 384],
+                n: [0.0; 384],
+                albedo: [0.0; 384],
+                area: [0.0; 128],
+            },
+            light: Light {
+                direct: [0.0; 384],
+                irr: [0.0; 384],
+                rad: [0.0; 384],
+            },
+            scratch: Scratch {
+                head: [0; 512],
+                next: [0; 128],
+            },
+            lent: Lent::from([0; 16]),
         }
     }
 
-    // With what the line stores; unchanged where it stores nothing.
-    pub fn with_line(self, line: &[u8]) -> Stored {
-        let operands = replay::operands(line);
-        let w = operands.words;
-        if named(line, b"put_materials") {
-            return self.with_materials(operands);
+    // Stores what the line says, and answers whether it says something: materials, from a place on;
+    // how many places of each table are lent; one word for every place of a table, another for each.
+    pub fn store(&mut self, line: &Line<'_>) -> bool {
+        match line.name {
+            b"put_materials" => put(&mut self.materials, &line.given),
+            b"lent" => self.lent = Lent::from(line.given.padded()),
+            b"fill" => self.fill(line.given.padded()),
+            _ => return false,
         }
-        if named(line, b"fill") {
-            return self.with_filled(w);
-        }
-        let mut next = self;
-        if named(line, b"lent") {
-            next.lent = w;
-        }
-        next
+        true
     }
 
-    // With words among the materials, from a place on.
-    fn with_materials(self, given: Words) -> Stored {
-        let mut table = self.materials;
-        put_floats(&mut table, given);
-        let mut next = self;
-        next.materials = table;
-        next
-    }
-
-    // With one word in every place of a table, another in each: p, n, albedo, area; direct, irr, rad;
-    // head, next.
-    fn with_filled(self, w: [u32; 16]) -> Stored {
-        let mut next = self;
-        next.columns = Columns::filled(w[0], w[1], w[2], w[3]);
-        next.light = Light::filled(w[4], w[5], w[6]);
-        next.scratch = Scratch::filled(w[7], w[8]);
-        next
+    // One word in every place of a table, another in each: p, n, albedo, area; direct, irr, rad; head,
+    // next.
+    fn fill(&mut self, w: [u32; 16]) {
+        self.columns.p.fill(of_bits(w[0]));
+        self.columns.n.fill(of_bits(w[1]));
+        self.columns.albedo.fill(of_bits(w[2]));
+        self.columns.area.fill(of_bits(w[3]));
+        self.light.direct.fill(of_bits(w[4]));
+        self.light.irr.fill(of_bits(w[5]));
+        self.light.rad.fill(of_bits(w[6]));
+        self.scratch.head.fill(w[7]);
+        self.scratch.next.fill(w[8]);
     }
 }

@@ -1,38 +1,18 @@
-// A room for the solve and the reset stored line by line, as the replay programs read it: surfels,
-// clusters, members, rows and light, and how much of each table a solve is lent. A line `put_` with
-// a table's name puts words into that table from a place on; a word that a line lacks is not put,
-// nor one that has no place.
+// A room stored line by line, as the replay programs read it: the tables of its surfels, clusters,
+// members, rows and light, and how much of each table a solve is lent. A line `put_` with a table's
+// name puts words into that table from a place on; a word that a line lacks is not put, nor one that
+// has no place.
 #![tactic(auto)]
 
-mod floats;
-mod lending;
-mod numbers;
-mod show;
+mod lent;
 
-use replay::named;
-pub use show::{direct, irr, rad, scratch};
-
-// How many places of each table a solve is lent.
-#[derive(Clone, Copy)]
-pub struct Lent {
-    pub albedo: usize,
-    pub area: usize,
-    pub direct: usize,
-    pub cluster_area: usize,
-    pub first: usize,
-    pub count: usize,
-    pub member: usize,
-    pub starts: usize,
-    pub link_cluster: usize,
-    pub link_weight: usize,
-    pub irr: usize,
-    pub rad: usize,
-    pub scratch: usize,
-}
+use float::of_bits;
+pub use lent::Lent;
+use replay::{Line, Words, put, shown};
 
 // Places for 12 surfels, 8 clusters, 32 members, 16 starts and 64 links; `light` is what a reset is
 // given.
-#[derive(Clone, Copy)]
+#[derive(Drop)]
 pub struct Stored {
     pub albedo: [f32; 36],
     pub area: [f32; 12],
@@ -49,15 +29,6 @@ pub struct Stored {
     pub scratch: [f32; 24],
     pub light: [f32; 36],
     pub lent: Lent,
-}
-
-// Whether the line stores something.
-pub fn stores(line: &[u8]) -> bool {
-    named(line, b"lent")
-        | named(line, b"fill")
-        | named(line, b"fill_direct")
-        | floats::stores(line)
-        | numbers::stores(line)
 }
 
 impl Stored {
@@ -78,26 +49,53 @@ impl Stored {
             rad: [0.0; 36],
             scratch: [0.0; 24],
             light: [0.0; 36],
-            lent: lending::lengths([0; 16]),
+            lent: Lent::from([0; 16]),
         }
     }
 
-    // With what the line stores; unchanged where it stores nothing.
-    pub fn with_line(self, line: &[u8]) -> Stored {
-        let operands = replay::operands(line);
-        let w = operands.words;
-        if named(line, b"lent") {
-            return self.with_lent(w);
+    // Stores what the line says, and answers whether it says something: how many places of each table
+    // are lent, one word for every place that a call can write, or words of a table.
+    pub fn store(&mut self, line: &Line<'_>) -> bool {
+        let w = line.given.padded();
+        match line.name {
+            b"lent" => self.lent = Lent::from(w),
+            b"fill" => self.fill(of_bits(w[0])),
+            b"fill_direct" => self.direct.fill(of_bits(w[0])),
+            b"put_albedo" => put(&mut self.albedo, &line.given),
+            b"put_area" => put(&mut self.area, &line.given),
+            b"put_direct" => put(&mut self.direct, &line.given),
+            b"put_cluster_area" => put(&mut self.cluster_area, &line.given),
+            b"put_first" => put(&mut self.first, &line.given),
+            b"put_count" => put(&mut self.count, &line.given),
+            b"put_member" => put(&mut self.member, &line.given),
+            b"put_starts" => put(&mut self.starts, &line.given),
+            b"put_link_cluster" => put(&mut self.link_cluster, &line.given),
+            b"put_link_weight" => put(&mut self.link_weight, &line.given),
+            b"put_irr" => put(&mut self.irr, &line.given),
+            b"put_rad" => put(&mut self.rad, &line.given),
+            b"put_light" => put(&mut self.light, &line.given),
+            _ => return false,
         }
-        if named(line, b"fill") {
-            return self.filled(w);
+        true
+    }
+
+    // One float in every place that a solve can write.
+    fn fill(&mut self, x: f32) {
+        self.irr.fill(x);
+        self.rad.fill(x);
+        self.scratch.fill(x);
+    }
+
+    // Up to 16 words of the table of this name from place `at` on: the surfels' irradiance, the light
+    // that they give off, the scratch of a solve, their direct light. None where a call writes no such
+    // table.
+    pub fn shown(&self, name: &[u8], at: usize) -> Words {
+        match name {
+            b"irr" => shown(&self.irr, at),
+            b"rad" => shown(&self.rad, at),
+            b"scratch" => shown(&self.scratch, at),
+            b"direct" => shown(&self.direct, at),
+            _ => Words::none(),
         }
-        if named(line, b"fill_direct") {
-            return self.filled_direct(w);
-        }
-        if floats::stores(line) {
-            return self.with_floats(line, operands);
-        }
-        self.with_numbers(line, operands)
     }
 }

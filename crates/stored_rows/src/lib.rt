@@ -3,78 +3,71 @@
 // from a place on; a word that a line lacks is not put, nor one that has no place.
 #![tactic(auto)]
 
-mod cluster;
-mod members;
-mod rows;
-mod surfels;
+mod lending;
+mod written;
 
-pub use cluster::Clusters;
-pub use members::Members;
-use replay::named;
-pub use rows::Rows;
-pub use surfels::Surfels;
+pub use lending::{ClustersLent, RowsLent};
+use replay::{Line, put};
+pub use written::{Clusters, Members, Rows};
 
-// Places for 32 surfels, 32 clusters with 32 members in all, and rows with 160 links. A call for
-// clusters is lent so many places of p, normals, area; cluster p, n, area, radius; first, count,
-// member, order, spare; a call for rows of p, normals; cluster p, n, area, radius; starts,
-// link_cluster, link_weight, link, weight.
-#[derive(Clone, Copy)]
+// Places for 32 surfels, 32 clusters with 32 members in all, and rows with 160 links; and how many places
+// of each table the two calls are lent.
+#[derive(Drop)]
 pub struct Stored {
     pub surfels: Surfels,
     pub clusters: Clusters,
     pub members: Members,
     pub rows: Rows,
-    pub clusters_lent: [u32; 16],
-    pub rows_lent: [u32; 16],
+    pub clusters_lent: ClustersLent,
+    pub rows_lent: RowsLent,
 }
 
-// Whether the line stores something.
-pub fn stores(line: &[u8]) -> bool {
-    named(line, b"lent_clusters")
-        | named(line, b"lent_rows")
-        | named(line, b"fill_clusters")
-        | named(line, b"fill_rows")
-        | surfels::stores(line)
-        | cluster::stores(line)
+// Surfels: their points, their normals and their areas.
+#[derive(Drop)]
+pub struct Surfels {
+    pub p: [f32; 96],
+    pub normals: [f32; 96],
+    pub area: [f32; 32],
 }
 
 impl Stored {
     // Every place holds zero, and nothing is lent.
     pub fn nothing() -> Stored {
         Stored {
-            surfels: Surfels::nothing(),
+            surfels: Surfels {
+                p: [0.0; 96],
+                normals: [0.0; 96],
+                area: [0.0; 32],
+            },
             clusters: Clusters::filled(0),
             members: Members::filled(0),
             rows: Rows::filled(0),
-            clusters_lent: [0; 16],
-            rows_lent: [0; 16],
+            clusters_lent: ClustersLent::from([0; 16]),
+            rows_lent: RowsLent::from([0; 16]),
         }
     }
 
-    // With what the line stores; unchanged where it stores nothing.
-    pub fn with_line(self, line: &[u8]) -> Stored {
-        let operands = replay::operands(line);
-        let w = operands.words;
-        let mut next = self;
-        if named(line, b"lent_clusters") {
-            next.clusters_lent = w;
-            return next;
+    // Stores what the line says, and answers whether it says something: how many places of each table
+    // a call is lent, one word for every place that a call can write, or words of a table.
+    pub fn store(&mut self, line: &Line<'_>) -> bool {
+        let w = line.given.padded();
+        match line.name {
+            b"lent_clusters" => self.clusters_lent = ClustersLent::from(w),
+            b"lent_rows" => self.rows_lent = RowsLent::from(w),
+            b"fill_clusters" => {
+                self.clusters = Clusters::filled(w[0]);
+                self.members = Members::filled(w[0]);
+            }
+            b"fill_rows" => self.rows = Rows::filled(w[0]),
+            b"put_p" => put(&mut self.surfels.p, &line.given),
+            b"put_normals" => put(&mut self.surfels.normals, &line.given),
+            b"put_area" => put(&mut self.surfels.area, &line.given),
+            b"put_cluster_p" => put(&mut self.clusters.p, &line.given),
+            b"put_cluster_n" => put(&mut self.clusters.n, &line.given),
+            b"put_cluster_area" => put(&mut self.clusters.area, &line.given),
+            b"put_radius" => put(&mut self.clusters.radius, &line.given),
+            _ => return false,
         }
-        if named(line, b"lent_rows") {
-            next.rows_lent = w;
-            return next;
-        }
-        if named(line, b"fill_clusters") {
-            next.clusters = Clusters::filled(w[0]);
-            next.members = Members::filled(w[0]);
-            return next;
-        }
-        if named(line, b"fill_rows") {
-            next.rows = Rows::filled(w[0]);
-            return next;
-        }
-        next.surfels = self.surfels.with_line(line, operands);
-        next.clusters = self.clusters.with_line(line, operands);
-        next
+        true
     }
 }

@@ -14,8 +14,8 @@ pub fn product(x: f32, y: f32) -> f32
     if !((0.0 < x) & (0.0 < y)) {
         return beside_zero(x, y);
     }
-    let a = f32::to_bits(x);
-    let b = f32::to_bits(y);
+    let a = x.to_bits();
+    let b = y.to_bits();
     let e = exponent(a) + exponent(b);
     if 150 < e {
         return x * y;
@@ -44,10 +44,10 @@ pub fn quotient(x: f32, y: f32) -> f32
     if !((0.0 < x) & (0.0 < y)) {
         return x / y;
     }
-    let a = f32::to_bits(x);
-    let b = f32::to_bits(y);
+    let a = x.to_bits();
+    let b = y.to_bits();
     let m = significand(a);
-    let up = u64::leading_zeros(m) - 40;
+    let up = m.leading_zeros() - 40;
     let from = exponent(a) + 59;
     let to = exponent(b) + up;
     if (b < 0x80_0000) | (0x7f7f_ffff < b) | (to < from) {

@@ -12,7 +12,7 @@ pub fn packed(p: u64, t: u32) -> u32
     ensures value { result ≡ pattern p t }
     ensures upper_bound { result < 0x7f80_0000 }
 {
-    let beyond = less(digits(p) + 40, t);
+    let beyond = (digits(p) + 40).saturating_sub(t);
     let kept = nearest(p, beyond + t - 64);
     (beyond << 23) + kept as u32
 }
@@ -21,14 +21,7 @@ pub fn packed(p: u64, t: u32) -> u32
 fn digits(p: u64) -> u32
     ensures { result ≡ size p }
 {
-    64 - u64::leading_zeros(p)
-}
-
-// a less b, or 0 where b is more.
-fn less(a: u32, b: u32) -> u32
-    ensures { result ≡ a - b }
-{
-    if b < a { a - b } else { 0 }
+    64 - p.leading_zeros()
 }
 
 // The whole number nearest to p / 2^k, of two as near the even one.
@@ -37,14 +30,7 @@ fn nearest(p: u64, k: u32) -> u64
     requires k_nonzero { 0 < k }
     ensures { result ≡ closest p (2 ^ k) }
 {
-    let j = at_most_63(k);
+    let j = k.min(63);
     let half = 1u64 << (j - 1);
     (p + (half - 1) + ((p >> j) & 1)) >> j
-}
-
-// n, or 63 where it is more.
-fn at_most_63(n: u32) -> u32
-    ensures { result ≡ min n 63 }
-{
-    if n < 63 { n } else { 63 }
 }

@@ -6,6 +6,7 @@ use crate::{product, quotient};
 use vector::Vec3;
 
 // Each component times k.
+#[tactic(auto, unfolding(vector::specs::Vector::scaled))]
 pub fn scaled(v: Vec3, k: f32) -> Vec3
     ensures { result ≡ scaled v k }
 {
@@ -17,6 +18,7 @@ pub fn scaled(v: Vec3, k: f32) -> Vec3
 }
 
 // Each component times the other vector's.
+#[tactic(auto, unfolding(vector::specs::Vector::times))]
 pub fn times(v: Vec3, o: Vec3) -> Vec3
     ensures { result ≡ times v o }
 {
@@ -28,6 +30,7 @@ pub fn times(v: Vec3, o: Vec3) -> Vec3
 }
 
 // Each component divided by k.
+#[tactic(auto, unfolding(vector::specs::Vector::over))]
 pub fn over(v: Vec3, k: f32) -> Vec3
     ensures { result ≡ over v k }
 {

@@ -1,4 +1,4 @@
--- The number that refuses a reading, and what one that is not refused says of its tables. Assumes nothing.
+-- What a reading that is not refused says of its tables. Assumes nothing.
 use mathlib.Core.Bool.{Bool, true, ◌&&◌, and-eq-true_iff}
 use mathlib.Core.List.{[], ◌∷◌}
 use mathlib.Core.Path.{◌≡◌}
@@ -6,27 +6,23 @@ use Prim.Native.Nat.{ℕ, ◌*◌, ◌≤◌}
 use lib.Dec.{leb}
 use lib.Ieee.{Float}
 use lib.ListN.{length}
+use Rattle.std.specs.Prelude.{Ok}
+use Rattle.std.specs.List.{All}
+use native.Mathlib.Omega.{arith}
+use Rattle.vector.specs.declared.Vec3.{Vec3}
 use borrow.Author.Tests.{leb-true}
 use Rattle.accept.specs.Limits.{max_surfels}
-use Rattle.accept.specs.Tables.{at_most, holds, starts_monotone, numbers_below, column}
-use Rattle.accept.proofs.Bounded.{three_each, numbers_below_at}
+use Rattle.accept.specs.Tables.{at_most, holds, column}
+use Rattle.accept.proofs.Bounded.{three_each}
 use Rattle.accept.proofs.Every.{conj_each}
-use Rattle.grid.specs.Lent.{Grid, cells_of}
-use Rattle.grid.specs.Checks as Grids
+use Rattle.grid.specs.Lent.{Grid}
 use Rattle.grid.specs.Checks.{sized, tables_hold, list_fits}
-use Rattle.grid.proofs.Nearby.{accepted}
-use Rattle.surfel.specs.Checks.{Probes, probes_lent, all_refusal, radius_within, columns_hold, points_within, refusal}
+use Rattle.grid.specs.Visiting.{visited}
+use Rattle.grid.proofs.Nearby.{accepted, visited_below}
+use Rattle.surfel.specs.Checks.{Probes, probes_lent, check_all, radius_within, columns_hold, points_within, check}
 use Rattle.accept.specs.Ranges.{coordinates}
 use Rattle.surfel.specs.Gathering.{Surfels}
-use Rattle.surfel.specs.Needs.{Accepted}
-
--- the number of a reading, from its own tests and the grid's number
-pub refusal_made : (g : Grid) (s : Surfels) (radius : Float) (few lent floats : Bool) {p n i points facing ranged : Bool} {r : ℕ}
-    → p ≡ column s.p g.n → n ≡ column s.normals g.n → i ≡ column s.irr g.n
-    → points ≡ coordinates s.p g.n → facing ≡ coordinates s.normals g.n → ranged ≡ radius_within radius
-    → r ≡ Grids.refusal g few ranged (p && n && i && lent) (points && facing && floats) → r ≡ refusal g s radius few lent floats
-unfolding columns_hold points_within refusal
-refusal_made g s radius few lent floats a b c d e f h = rw (h, a, b, c, d, e, f)
+use Rattle.surfel.specs.Needs.{Accepted, Named}
 
 -- each test of a reading that is not refused passed
 pub record Answered (g : Grid) (s : Surfels) (radius : Float) (few lent floats : Bool) : Type 0 where
@@ -38,9 +34,9 @@ pub record Answered (g : Grid) (s : Surfels) (radius : Float) (few lent floats :
   pub floats_passed : floats ≡ true
   pub fits_passed : list_fits g ≡ true
 
--- the number 0 says so
-pub not_refused : (g : Grid) (s : Surfels) (radius : Float) (few lent floats : Bool) → refusal g s radius few lent floats ≡ 0 → Answered g s radius few lent floats
-unfolding refusal
+-- as one that is not refused says
+pub not_refused : (g : Grid) (s : Surfels) (radius : Float) (few lent floats : Bool) → check g s radius few lent floats ≡ Ok tt → Answered g s radius few lent floats
+unfolding check
 not_refused g s radius few lent floats e =
     let t = accepted g few (radius_within radius) (columns_hold g.n s && lent) (points_within g.n s && floats) e in
     let counts = (and-eq-true_iff (at_most g.n max_surfels) few).0 t.0 in
@@ -59,23 +55,16 @@ not_refused g s radius few lent floats e =
     }
 
 -- and so its tables are accepted
-pub answered_accepted : (g : Grid) (s : Surfels) (radius : Float) (few lent floats : Bool) → refusal g s radius few lent floats ≡ 0 → Accepted g s
-unfolding columns_hold list_fits
+pub answered_accepted : (g : Grid) (s : Surfels) (radius : Float) (few lent floats : Bool) → check g s radius few lent floats ≡ Ok tt → Accepted g s
+unfolding columns_hold
 answered_accepted g s radius few lent floats e =
     let a = not_refused g s radius few lent floats e in
-    let fits = (and-eq-true_iff (starts_monotone g.starts (cells_of g) g.n) (numbers_below g.items g.n g.n)).0 a.fits_passed in
-    let numbers = numbers_below_at g.items g.n g.n fits.1 in
     let h = conj_each (column s.p g.n ∷ column s.normals g.n ∷ column s.irr g.n ∷ []) a.columns_passed in
     record {
       fits = a.fits_passed;
-      listed =
-          record {
-            held = numbers.0;
-            below = numbers.1;
-            p_held = three_each (length s.p) g.n h.0;
-            normals_held = three_each (length s.normals) g.n h.1.0;
-            irr_held = three_each (length s.irr) g.n h.1.1.0;
-          };
+      p_held = three_each (length s.p) g.n h.0;
+      normals_held = three_each (length s.normals) g.n h.1.0;
+      irr_held = three_each (length s.irr) g.n h.1.1.0;
     }
 
 -- slices that hold the probes have room for what is seen, and for the light
@@ -86,7 +75,7 @@ lent_room count p normals seen light e =
     (leb-true _ _ h.1.1.0, three_each light count h.1.1.1.0)
 
 -- probes that are not refused read tables that are accepted, into slices with room for each
-pub all_accepted : (g : Grid) (s : Surfels) (q : Probes) (seen light : ℕ) → all_refusal g s q seen light ≡ 0
+pub all_accepted : (g : Grid) (s : Surfels) (q : Probes) (seen light : ℕ) → check_all g s q seen light ≡ Ok tt
     → Accepted g s × (q.count ≤ seen) × (3 * q.count ≤ light)
 all_accepted g s q seen light e =
     let few = at_most q.count max_surfels in
@@ -94,3 +83,9 @@ all_accepted g s q seen light e =
     let floats = coordinates q.p q.count && coordinates q.normals q.count in
     let room = lent_room q.count (length q.p) (length q.normals) seen light (not_refused g s q.radius few lent floats e).lent_passed in
     (answered_accepted g s q.radius few lent floats e, room.0, room.1)
+
+-- whose numbers near a point name surfels
+pub visited_named : (g : Grid) (s : Surfels) (p : Vec3) (reach : ℕ) → Accepted g s → All (Named s) (visited g p reach)
+visited_named g s p reach a k d h =
+    let below = visited_below g p reach a.fits k d h in
+    record { p_in = omega (arith, below, a.p_held); normals_in = omega (arith, below, a.normals_held); irr_in = omega (arith, below, a.irr_held) }

@@ -1,14 +1,13 @@
 -- What the definitions of the reading say, read back: when a point is unseen, that many readings are the single ones, and that the two decimals are the nearest floats. Assumes nothing.
+use Rattle.std.specs.Prelude.{Ok, Err, Result}
 use mathlib.Core.Bool.{Bool, true, false, cond, ◌&&◌, and-eq-true_iff}
 use mathlib.Core.List.{List, [], ◌∷◌}
 use mathlib.Core.Logic.{◌↔◌}
 use mathlib.Core.Path.{◌≡◌, refl}
 use Prim.Native.Nat.{ℕ, suc, ◌<◌}
 use native.Mathlib.Omega.{arith}
-use lib.Dec.{eqb}
 use lib.Ieee.{Float, nan, lt, of_bits, of_fields, round, units, odd, span, climb, size}
 use lib.ListN.{length, get_or}
-use borrow.Author.Tests.{eqb-true, ne_eqb}
 use Rattle.float.specs.Arithmetic.{◌*f◌}
 use Rattle.vector.specs.declared.Vec3.{Vec3}
 use Rattle.vector.specs.Vector.{dot, minus, length_squared}
@@ -16,20 +15,19 @@ use Rattle.vector.specs.Flat.{vec_at, filled, written}
 use Rattle.vector.proofs.Replaced.{at_filled, at_written}
 use Rattle.accept.specs.Limits.{max_surfels}
 use Rattle.accept.specs.Ranges.{point, coordinates}
+use Rattle.accept.specs.Refusal.{outcome}
 use Rattle.accept.specs.Tables.{at_most, number_at}
+use Rattle.accept.specs.declared.refusal.Refusal.{Refusal}
 use Rattle.accept.proofs.Bounded.{coordinates_at}
 use Rattle.accept.proofs.Decimals.{nearest_to}
 use Rattle.grid.specs.Lent.{Grid}
 use Rattle.grid.specs.Visiting.{visited}
-use Rattle.surfel.specs.declared.GatherAllAnswer.{GatherAllAnswer}
-use Rattle.surfel.specs.declared.GatherAllAnswer.TheVariants as Many
-use Rattle.surfel.specs.declared.GatherAnswer.TheVariants as One
 use Rattle.surfel.specs.declared.Probe.{Probe}
 use Rattle.surfel.specs.declared.Reading.{Reading}
 use Rattle.surfel.specs.declared.Reading.TheVariants.{Seen, Unseen}
 use Rattle.surfel.specs.declared.Surfel.{Surfel}
 use Rattle.surfel.specs.declared.Weighed.{Weighed}
-use Rattle.surfel.specs.Checks.{Probes, probes_lent, refusal, all_refusal}
+use Rattle.surfel.specs.Checks.{Probes, probes_lent, check, check_all}
 use Rattle.surfel.specs.Answers.{reading_at, seen_number, seen_light, gather_answer, gather_all_answer}
 use Rattle.surfel.specs.Gathering.{Surfels, surfel_at, weigh_all, gather}
 use Rattle.surfel.specs.Weighing.{align_limit, weight_limit, reading, nothing, counts_at, weigh}
@@ -100,16 +98,16 @@ unseen_back Unseen e = refl
 -- ---- many readings
 
 -- where one call on these tables is not refused, no other is whose own tests pass
-also_accepted : (g : Grid) (s : Surfels) (radius : Float) (few lent floats also : Bool) → refusal g s radius few lent floats ≡ 0 → also ≡ true → refusal g s radius true true also ≡ 0
+also_accepted : (g : Grid) (s : Surfels) (radius : Float) (few lent floats also : Bool) → check g s radius few lent floats ≡ Ok tt → also ≡ true → check g s radius true true also ≡ Ok tt
 also_accepted g s radius few lent floats also e h =
     let a = not_refused g s radius few lent floats e in
     rw h (rw (a.few_passed, a.lent_passed, a.floats_passed) at e)
 
 -- an answer that is done was not refused
-done_by : (number : ℕ) (b : Bool) (x y : List ℕ × List Float) → eqb number 0 ≡ b
-    → (cond {A = GatherAllAnswer × List ℕ × List Float} b (Many.Done, x.0, x.1) (Many.Refused number, y.0, y.1)).0 ≡ Many.Done → number ≡ 0
-done_by number true x y e h = eqb-true number 0 e
-done_by number false x y e h = absurd (let z : ◌≡◌ {A = ℕ} 0 1 = cc in omega arith)
+done_by : (r : Result Unit Refusal) (x y : List ℕ × List Float)
+    → (outcome {A = Result Unit Refusal × List ℕ × List Float} (λ refusal. (Err refusal, y.0, y.1)) (Ok tt, x.0, x.1) r).0 ≡ Ok tt → r ≡ Ok tt
+done_by (Ok u) x y e = refl
+done_by (Err refusal) x y e = absurd cc
 
 module _ (g : Grid) (s : Surfels) (q : Probes) (seen : List ℕ) (light : List Float) where
   -- the tests of the probes: few (2), lent (4) and floats (5)
@@ -123,23 +121,23 @@ module _ (g : Grid) (s : Surfels) (q : Probes) (seen : List ℕ) (light : List F
   floats = coordinates q.p q.count && coordinates q.normals q.count
 
   -- readings that are done were not refused
-  zero_number : (gather_all_answer g s q seen light).0 ≡ Many.Done → refusal g s q.radius few lent floats ≡ 0
+  all_checked : (gather_all_answer g s q seen light).0 ≡ Ok tt → check g s q.radius few lent floats ≡ Ok tt
   unfolding gather_all_answer
-  zero_number e = done_by (refusal g s q.radius few lent floats) _ (filled (λ i. seen_number (reading_at g s q i)) q.count seen, written (λ i. seen_light (reading_at g s q i)) q.count light) (seen, light) refl e
+  all_checked e = done_by (check g s q.radius few lent floats) (filled (λ i. seen_number (reading_at g s q i)) q.count seen, written (λ i. seen_light (reading_at g s q i)) q.count light) (seen, light) e
 
   -- what is left where the readings are done
-  pub all_done : (gather_all_answer g s q seen light).0 ≡ Many.Done
-      → gather_all_answer g s q seen light ≡ (Many.Done, filled (λ i. seen_number (reading_at g s q i)) q.count seen, written (λ i. seen_light (reading_at g s q i)) q.count light)
+  pub all_done : (gather_all_answer g s q seen light).0 ≡ Ok tt
+      → gather_all_answer g s q seen light ≡ (Ok tt, filled (λ i. seen_number (reading_at g s q i)) q.count seen, written (λ i. seen_light (reading_at g s q i)) q.count light)
   unfolding gather_all_answer
-  all_done e = rw (zero_number e)
+  all_done e = rw (all_checked e)
 
   -- readings that are refused leave the slices as they were
-  pub all_refused : (all_refusal g s q (length seen) (length light) ≡ 0 → ⊥)
-      → gather_all_answer g s q seen light ≡ (Many.Refused (all_refusal g s q (length seen) (length light)), seen, light)
+  pub all_refused : {refusal : Refusal} → check_all g s q (length seen) (length light) ≡ Err refusal
+      → gather_all_answer g s q seen light ≡ (Err refusal, seen, light)
   unfolding gather_all_answer
-  all_refused h = rw (ne_eqb (all_refusal g s q (length seen) (length light)) 0 h)
+  all_refused e = rw e
 
-  module _ (e : (gather_all_answer g s q seen light).0 ≡ Many.Done) (i : ℕ) (h : i < q.count) where
+  module _ (e : (gather_all_answer g s q seen light).0 ≡ Ok tt) (i : ℕ) (h : i < q.count) where
     -- what is seen of probe i is what the reading there sees
     pub seen_at : get_or (gather_all_answer g s q seen light).1 i 0 ≡ seen_number (reading_at g s q i)
     seen_at = rw (all_done e) (at_filled (λ i. seen_number (reading_at g s q i)) q.count i seen 0 h)
@@ -149,10 +147,10 @@ module _ (g : Grid) (s : Surfels) (q : Probes) (seen : List ℕ) (light : List F
     light_at_lem = rw (all_done e) (at_written (λ i. seen_light (reading_at g s q i)) q.count i light h)
 
     -- and so it is what the single reading answers
-    pub single_at : gather_answer g s (vec_at q.p i) (vec_at q.normals i) q.radius ≡ One.Done (reading_at g s q i)
+    pub single_at : gather_answer g s (vec_at q.p i) (vec_at q.normals i) q.radius ≡ Ok (reading_at g s q i)
     unfolding gather_answer
     single_at =
-        let z = zero_number e in
+        let z = all_checked e in
         let both = (and-eq-true_iff (coordinates q.p q.count) (coordinates q.normals q.count)).0 (not_refused g s q.radius few lent floats z).floats_passed in
         let at = coordinates_at q.p q.count both.0 i h in
         let normal = coordinates_at q.normals q.count both.1 i h in

@@ -1,24 +1,20 @@
 -- What the entries of the reading answer and leave, refused or not: document 01, 'The reading' and 'Refused calls'. Definitions only.
-use Rattle.std.specs.Prelude.{true, ◌&&◌, List, ℕ, Float, length}
+use Rattle.std.specs.Prelude.{true, ◌&&◌, List, ℕ, Result, Ok, Err, Float, length}
 use Rattle.vector.specs.declared.Vec3.{Vec3}
 use Rattle.vector.specs.Flat.{vec_at, filled, written}
 use Rattle.vector.specs.Vector.{zero_vec}
 use Rattle.accept.specs.Ranges.{point}
-use Rattle.accept.specs.Refusal.{answered}
+use Rattle.accept.specs.Refusal.{outcome}
+use Rattle.accept.specs.declared.refusal.Refusal.{Refusal}
 use Rattle.grid.specs.Lent.{Grid}
-use Rattle.surfel.specs.declared.GatherAllAnswer.{GatherAllAnswer}
-use Rattle.surfel.specs.declared.GatherAllAnswer.TheVariants as Many
-use Rattle.surfel.specs.declared.GatherAnswer.{GatherAnswer}
-use Rattle.surfel.specs.declared.GatherAnswer.TheVariants as One
 use Rattle.surfel.specs.declared.Reading.{Reading}
 use Rattle.surfel.specs.declared.Reading.TheVariants.{Seen, Unseen}
-use Rattle.surfel.specs.Checks.{refusal, Probes, all_refusal}
+use Rattle.surfel.specs.Checks.{check, Probes, check_all}
 use Rattle.surfel.specs.Gathering.{Surfels, gather}
 
 -- the reading at one point
-unfoldable pub gather_answer : Grid → Surfels → Vec3 → Vec3 → Float → GatherAnswer
-gather_answer g s at normal radius =
-    answered One.Refused (One.Done (gather g s at normal radius)) (refusal g s radius true true (point at && point normal))
+unfoldable pub gather_answer : Grid → Surfels → Vec3 → Vec3 → Float → Result Reading Refusal
+gather_answer g s at normal radius = outcome Err (Ok (gather g s at normal radius)) (check g s radius true true (point at && point normal))
 
 -- 1 where the light is seen, 0 where it is not
 abbrev pub seen_number : Reading → ℕ
@@ -42,7 +38,7 @@ abbrev pub all_light : Grid → Surfels → Probes → List Float → List Float
 all_light g s q light = written (λ i. seen_light (reading_at g s q i)) q.count light
 
 -- the readings at many points: the answer, what is seen, and the light
-unfoldable pub gather_all_answer : Grid → Surfels → Probes → List ℕ → List Float → GatherAllAnswer × List ℕ × List Float
+unfoldable pub gather_all_answer : Grid → Surfels → Probes → List ℕ → List Float → Result Unit Refusal × List ℕ × List Float
 gather_all_answer g s q seen light =
-    answered (λ number. (Many.Refused number, seen, light)) (Many.Done, all_seen g s q seen, all_light g s q light)
-    (all_refusal g s q (length seen) (length light))
+    outcome (λ refusal. (Err refusal, seen, light)) (Ok tt, all_seen g s q seen, all_light g s q light)
+    (check_all g s q (length seen) (length light))

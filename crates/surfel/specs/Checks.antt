@@ -1,11 +1,12 @@
 -- Whether a reading is accepted: document 01, 'Refused calls', 2, 3, 4, 5 and 7. Points, normals and probes are coordinates; irr may be any float. Definitions only.
-use Rattle.std.specs.Prelude.{Bool, ◌&&◌, List, [], ◌∷◌, ℕ, leb, Float, length}
+use Rattle.std.specs.Prelude.{Bool, ◌&&◌, List, [], ◌∷◌, ℕ, leb, Result, Float, length}
 use Rattle.float.specs.Arithmetic.{0f}
 use Rattle.vector.specs.Flat.{Slice}
 use Rattle.accept.specs.Every.{conj}
 use Rattle.accept.specs.Limits.{max_radius, max_surfels}
 use Rattle.accept.specs.Ranges.{within, coordinates}
 use Rattle.accept.specs.Tables.{at_most, holds, column}
+use Rattle.accept.specs.declared.refusal.Refusal.{Refusal}
 use Rattle.grid.specs.Checks as Grids
 use Rattle.grid.specs.Lent.{Grid}
 use Rattle.surfel.specs.Gathering.{Surfels}
@@ -22,10 +23,10 @@ columns_hold n s = conj (column s.p n ∷ column s.normals n ∷ column s.irr n 
 unfoldable pub points_within : ℕ → Surfels → Bool
 points_within n s = coordinates s.p n && coordinates s.normals n
 
--- the number that refuses a reading, 0 if none does; the tests of the call's own probes are few (2), lent (4) and floats (5)
-unfoldable pub refusal : Grid → Surfels → Float → Bool → Bool → Bool → ℕ
-refusal g s radius few lent floats =
-    Grids.refusal g few (radius_within radius) (columns_hold g.n s && lent) (points_within g.n s && floats)
+-- what refuses a reading; the tests of the call's own probes are few (2), lent (4) and floats (5)
+unfoldable pub check : Grid → Surfels → Float → Bool → Bool → Bool → Result Unit Refusal
+check g s radius few lent floats =
+    Grids.check g few (radius_within radius) (columns_hold g.n s && lent) (points_within g.n s && floats)
 
 -- many probes: their points, their normals, and the radius
 pub record Probes : Type 0 where
@@ -34,16 +35,20 @@ pub record Probes : Type 0 where
   pub normals : List Float
   pub radius : Float
 
+-- the probes of this number and these lists
+abbrev pub probes_of : ℕ → List Float → List Float → Float → Probes
+probes_of count p normals radius = record { count = count; p = p; normals = normals; radius = radius }
+
 -- the probes that a function was lent
 abbrev pub probes_in : ℕ → Slice Float → Slice Float → Float → Probes
-probes_in count p normals radius = record { count = count; p = p.entry.now; normals = normals.entry.now; radius = radius }
+probes_in count p normals radius = probes_of count p.entry.now normals.entry.now radius
 
 -- 4: slices of these lengths hold so many probes, and what is seen and the light of each
 unfoldable pub probes_lent : ℕ → ℕ → ℕ → ℕ → ℕ → Bool
 probes_lent count p normals seen light = conj (holds p count 3 ∷ holds normals count 3 ∷ leb count seen ∷ holds light count 3 ∷ [])
 
--- the number that refuses these probes, whose readings go into slices of these lengths; 0 if none does
-abbrev pub all_refusal : Grid → Surfels → Probes → ℕ → ℕ → ℕ
-all_refusal g s q seen light =
-    refusal g s q.radius (at_most q.count max_surfels) (probes_lent q.count (length q.p) (length q.normals) seen light)
+-- what refuses these probes, whose readings go into slices of these lengths
+abbrev pub check_all : Grid → Surfels → Probes → ℕ → ℕ → Result Unit Refusal
+check_all g s q seen light =
+    check g s q.radius (at_most q.count max_surfels) (probes_lent q.count (length q.p) (length q.normals) seen light)
     (coordinates q.p q.count && coordinates q.normals q.count)

@@ -1,47 +1,29 @@
-// Which number refuses a reading.
-ghost use Rattle.std.specs.Prelude.{◌≡◌};
-ghost use Rattle.grid.specs.Lent.{grid_in};
-ghost use Rattle.surfel.specs.Gathering.{surfels_in};
-ghost use Rattle.surfel.specs.Checks.{radius_within, refusal, probes_in, probes_lent, all_refusal};
+// Why a reading is refused.
+ghost use Rattle.std.specs.Prelude.{◌≡◌, length};
+ghost use Rattle.surfel.specs.Checks.{radius_within, columns_hold, points_within, check, probes_lent, check_all};
 
+use crate::{Probes, Surfels};
 use accept::limits::{MAX_RADIUS, MAX_SURFELS};
-use accept::{at_most, coordinates, holds, within};
-use vector::Vec3;
+use accept::{Refusal, at_most, coordinates, holds, within};
+use grid::Grid;
 
-// The number that refuses a reading of these surfels, 0 if none does. The tests of the call's own
-// probes are handed in: few (2), lent (4) and floats (5).
-pub fn refusal(
-    n: usize,
-    starts: &[u32],
-    items: &[u32],
-    lo: Vec3,
-    hi: Vec3,
-    cell: f32,
-    p: &[f32],
-    normals: &[f32],
-    irr: &[f32],
+// What refuses a reading of these surfels. The tests of the call's own probes are handed in: few
+// (2), lent (4) and floats (5).
+#[tactic(auto, unfolding(crate::specs::Checks::check))]
+pub fn check(
+    grid: &Grid,
+    surfels: &Surfels,
     radius: f32,
     few: bool,
     lent: bool,
     floats: bool,
-) -> u32
-    ensures { result ≡ refusal (grid_in n starts items lo hi cell) (surfels_in p normals irr) radius few lent floats }
+) -> Result<(), Refusal>
+    ensures { result ≡ check grid.now surfels.now radius few lent floats }
 {
-    let columns = holds(p.len(), n, 3) & holds(normals.len(), n, 3) & holds(irr.len(), n, 3);
-    let points = coordinates(p, n);
-    let facing = coordinates(normals, n);
-    grid::refusal(
-        n,
-        starts,
-        items,
-        lo,
-        hi,
-        cell,
-        few,
-        radius_within(radius),
-        columns & lent,
-        points & facing & floats,
-    )
+    let ranged = radius_within(radius);
+    let columns = surfels.columns_hold(grid.n);
+    let points = surfels.points_within(grid.n);
+    grid::check(grid, few, ranged, columns & lent, points & floats)
 }
 
 // Whether a radius is in its range.
@@ -51,38 +33,43 @@ pub fn radius_within(radius: f32) -> bool
     within(radius, 0.0, MAX_RADIUS)
 }
 
-// The number that refuses the readings at these probes, into slices of these lengths, 0 if none does.
-pub fn all_refusal(
-    n: usize,
-    starts: &[u32],
-    items: &[u32],
-    lo: Vec3,
-    hi: Vec3,
-    cell: f32,
-    p: &[f32],
-    normals: &[f32],
-    irr: &[f32],
-    probes: usize,
-    probe_p: &[f32],
-    probe_normals: &[f32],
-    radius: f32,
+impl Surfels<'_> {
+    // Whether each column holds n vectors.
+    #[tactic(auto, unfolding(crate::specs::Checks::columns_hold))]
+    fn columns_hold(&self, n: usize) -> bool
+        ensures { result ≡ columns_hold n self.now }
+    {
+        holds(self.p.len(), n, 3) & holds(self.normals.len(), n, 3) & holds(self.irr.len(), n, 3)
+    }
+
+    // Whether the points and the normals of n surfels are coordinates.
+    #[tactic(auto, unfolding(crate::specs::Checks::points_within))]
+    fn points_within(&self, n: usize) -> bool
+        ensures { result ≡ points_within n self.now }
+    {
+        coordinates(self.p, n) & coordinates(self.normals, n)
+    }
+}
+
+// What refuses the readings at these probes, into slices of these lengths.
+pub fn check_all(
+    grid: &Grid,
+    surfels: &Surfels,
+    probes: &Probes,
     seen: usize,
     light: usize,
-) -> u32
-    ensures { result
-        ≡ all_refusal (grid_in n starts items lo hi cell) (surfels_in p normals irr) (probes_in probes probe_p probe_normals radius) seen light }
+) -> Result<(), Refusal>
+    ensures { result ≡ check_all grid.now surfels.now probes.now seen light }
 {
-    let few = at_most(probes, MAX_SURFELS);
-    let lent = probes_lent(probes, probe_p.len(), probe_normals.len(), seen, light);
-    let points = coordinates(probe_p, probes);
-    let facing = coordinates(probe_normals, probes);
-    let floats = points & facing;
-    refusal(
-        n, starts, items, lo, hi, cell, p, normals, irr, radius, few, lent, floats,
-    )
+    let n = probes.count;
+    let few = at_most(n, MAX_SURFELS);
+    let lent = probes_lent(n, probes.p.len(), probes.normals.len(), seen, light);
+    let floats = coordinates(probes.p, n) & coordinates(probes.normals, n);
+    check(grid, surfels, probes.radius, few, lent, floats)
 }
 
 // Whether slices of these lengths hold so many probes and their readings.
+#[tactic(auto, unfolding(crate::specs::Checks::probes_lent))]
 fn probes_lent(probes: usize, p: usize, normals: usize, seen: usize, light: usize) -> bool
     ensures { result ≡ probes_lent probes p normals seen light }
 {

@@ -7,12 +7,47 @@
 mod checks;
 mod entries;
 mod gathering;
-mod probes;
+mod probing;
 mod weighing;
 
 pub use checks::radius_within;
 pub use entries::{gather, gather_all};
+use std::marker::Model;
 use vector::Vec3;
+
+// The columns of the surfels that a reading uses, three floats each: points, normals, and the
+// irradiance that reached them after at least one bounce.
+#[derive(Drop)]
+pub struct Surfels<'a> {
+    pub p: &'a [f32],
+    pub normals: &'a [f32],
+    pub irr: &'a [f32],
+}
+
+impl<'a> Model for Surfels<'a> {
+    ghost use Rattle.surfel.specs.Gathering.{Surfels as Columns, surfels_of};
+
+    ghost Value = { Columns };
+
+    ghost view = { λ s. surfels_of s.p.now s.normals.now s.irr.now };
+}
+
+// Many probes: how many, their points, their normals, and the radius.
+#[derive(Drop)]
+pub struct Probes<'a> {
+    pub count: usize,
+    pub p: &'a [f32],
+    pub normals: &'a [f32],
+    pub radius: f32,
+}
+
+impl<'a> Model for Probes<'a> {
+    ghost use Rattle.surfel.specs.Checks.{Probes as Lent, probes_of};
+
+    ghost Value = { Lent };
+
+    ghost view = { λ q. probes_of q.count q.p.now q.normals.now q.radius };
+}
 
 // A surfel as a reading weighs it: the point, the normal, and the irradiance that reached it after
 // at least one bounce.
@@ -40,21 +75,10 @@ pub struct Weighed {
 
 // The light at a point, or that it is unseen: the weights of the surfels near it do not exceed
 // 0.000001, as a NaN does not.
+// Kept: no Option, since a point that no surfel covers must not pass for a dark one, which `None`
+// would by `unwrap_or_default`.
 #[derive(Clone, Copy)]
 pub enum Reading {
     Seen(Vec3),
     Unseen,
-}
-
-// What the entries answer: refused with a number, or done.
-#[derive(Clone, Copy)]
-pub enum GatherAnswer {
-    Refused(u32),
-    Done(Reading),
-}
-
-#[derive(Clone, Copy)]
-pub enum GatherAllAnswer {
-    Refused(u32),
-    Done,
 }

@@ -42,16 +42,13 @@ pub fn nothing() -> Weighed
     ensures { result ≡ nothing }
 {
     Weighed {
-        light: Vec3 {
-            x: 0.0,
-            y: 0.0,
-            z: 0.0,
-        },
+        light: Vec3::zero(),
         weight: 0.0,
     }
 }
 
 // What a surfel at the squared distance d2 weighs, where align is the dot product of the normals.
+#[tactic(auto, unfolding(crate::specs::Weighing::weight))]
 fn weight(d2: f32, r2: f32, align: f32) -> f32
     ensures { result ≡ weight d2 r2 align }
 {

@@ -1,4 +1,3 @@
 -- What the proofs of several functions use, and the laws that other crates cite.
-pub mod Slices
 pub mod Outside
 pub mod Accepted

@@ -1,5 +1,5 @@
 -- Whether a scene is accepted: document 01, 'Refused calls', 2, 4, 5 and 6. Definitions only.
-use Rattle.std.specs.Prelude.{Bool, true, false, cond, ◌&&◌, List, [], ◌∷◌, ℕ, ◌+◌, eqb, ltb, leb, Float, length}
+use Rattle.std.specs.Prelude.{Bool, true, false, cond, ◌&&◌, List, [], ◌∷◌, ℕ, ◌+◌, eqb, ltb, leb, Float, length, Result}
 use Rattle.std.specs.Bool.{beq}
 use Rattle.float.specs.Arithmetic.{0f}
 use Rattle.vector.specs.declared.Vec3.{Vec3}
@@ -7,15 +7,17 @@ use Rattle.accept.specs.Every.{every, conj}
 use Rattle.accept.specs.Limits.{max_entries, max_length}
 use Rattle.accept.specs.Ranges.{within, coordinate, point}
 use Rattle.accept.specs.Tables.{at_most, holds, number_at, numbers_below}
-use Rattle.accept.specs.Refusal.{first_failed}
+use Rattle.accept.specs.Refusal.{checked}
+use Rattle.accept.specs.declared.refusal.Refusal.{Refusal}
+use Rattle.accept.specs.declared.refusal.Refusal.TheVariants as refusal
 use Rattle.sdf.specs.declared.Shape.{Shape}
 use Rattle.sdf.specs.declared.Shape.TheVariants.{Sphere, RoundBox, Plane, Capsule, Torus, Cylinder, Cone}
 use Rattle.tables.specs.declared.Part.{Part}
-use Rattle.tables.specs.Tables.{Scene, shape_at, plane_of, object_of}
+use Rattle.tables.specs.Tables.{Scene, prim_of, plane_of, object_of}
 
 -- 2: primitives, planes and objects within their limit
-unfoldable pub counts_within : ℕ → ℕ → ℕ → Bool
-counts_within prims planes objects = conj (at_most prims max_entries ∷ at_most planes max_entries ∷ at_most objects max_entries ∷ [])
+unfoldable pub counts_within : Scene → Bool
+counts_within s = conj (at_most s.prims max_entries ∷ at_most s.planes max_entries ∷ at_most s.objects max_entries ∷ [])
 
 -- 4: each table holds its entries
 unfoldable pub tables_hold : Scene → Bool
@@ -46,20 +48,20 @@ shape_within (Cylinder a b r) = conj (point a ∷ point b ∷ size_within r ∷ 
 shape_within (Cone a b ra rb) = conj (point a ∷ point b ∷ size_within ra ∷ size_within rb ∷ [])
 
 -- every float that primitive k uses; one of kind over 6 uses none
-unfoldable pub prim_within : List ℕ → List Float → ℕ → Bool
-prim_within kinds lengths k = cond (ltb 6 (number_at kinds k)) true (shape_within (shape_at kinds lengths k))
+unfoldable pub prim_within : Scene → ℕ → Bool
+prim_within s k = cond (ltb 6 (number_at s.kinds k)) true (shape_within (prim_of s k))
 
 -- 5: every primitive of the table, used or not
 unfoldable pub shapes_within : Scene → Bool
-shapes_within s = tables_hold s && every (prim_within s.kinds s.lengths) s.prims
+shapes_within s = tables_hold s && every (prim_within s) s.prims
 
 -- a part's base and its subtracted range are in the table, and its base is a plane exactly where the part is
-unfoldable pub part_fits : ℕ → List ℕ → Bool → Part → Bool
-part_fits prims kinds plane part =
+unfoldable pub part_fits : Scene → Bool → Part → Bool
+part_fits s plane part =
     conj
-    (ltb part.base prims
-    ∷ leb (part.first + part.many) prims
-    ∷ beq (eqb (number_at kinds part.base) 2) plane
+    (ltb part.base s.prims
+    ∷ leb (part.first + part.many) s.prims
+    ∷ beq (eqb (number_at s.kinds part.base) 2) plane
     ∷ [])
 
 -- 6: kinds from 0 to 6, and every plane and object fits
@@ -68,15 +70,15 @@ parts_fit s =
     conj
     (tables_hold s
     ∷ numbers_below s.kinds s.prims 7
-    ∷ every (λ j. part_fits s.prims s.kinds true (plane_of s j)) s.planes
-    ∷ every (λ j. part_fits s.prims s.kinds false (object_of s j)) s.objects
+    ∷ every (λ j. part_fits s true (plane_of s j)) s.planes
+    ∷ every (λ j. part_fits s false (object_of s j)) s.objects
     ∷ [])
 
--- the tests in their order, each with its number; `floats` says whether the call's own floats are in their range
-abbrev pub tests : Scene → Bool → List (ℕ × Bool)
+-- the tests in their order, each with its refusal; `floats` says whether the call's own floats are in their range
+abbrev pub tests : Scene → Bool → List (Refusal × Bool)
 tests s floats =
-    (2, counts_within s.prims s.planes s.objects) ∷ (4, tables_hold s) ∷ (5, shapes_within s && floats) ∷ (6, parts_fit s) ∷ []
+    (refusal.Count, counts_within s) ∷ (refusal.Length, tables_hold s) ∷ (refusal.Float, shapes_within s && floats) ∷ (refusal.Scene, parts_fit s) ∷ []
 
--- the number that refuses a call on this scene, 0 if none does
-unfoldable pub refusal : Scene → Bool → ℕ
-refusal s floats = first_failed (tests s floats)
+-- what refuses a call on this scene
+unfoldable pub check : Scene → Bool → Result Unit Refusal
+check s floats = checked (tests s floats)

@@ -1,178 +1,129 @@
 // Whether a scene is accepted.
 ghost use Rattle.std.specs.Prelude.{◌≡◌};
 ghost use Rattle.accept.specs.Every.{every};
-ghost use Rattle.tables.specs.Tables.{scene_in, part_at};
+ghost use Rattle.tables.specs.Tables.{part_at};
 ghost use Rattle.tables.specs.Checks.{counts_within, tables_hold, size_within, sizes_within, shape_within, prim_within, shapes_within};
-ghost use Rattle.tables.specs.Checks.{part_fits, parts_fit, refusal};
+ghost use Rattle.tables.specs.Checks.{part_fits, parts_fit, check};
 
-use crate::Part;
-use crate::reading::{number_at, part_at, shape_at};
+use crate::reading::{number_at, part_at};
+use crate::{Part, Scene};
 use accept::limits::{MAX_ENTRIES, MAX_LENGTH};
-use accept::{at_most, coordinate, holds, numbers_below, point, unless, wide, within};
+use accept::{Refusal, at_most, coordinate, holds, numbers_below, point, require, wide, within};
 use sdf::Shape;
 use vector::Vec3;
 
-// The number that refuses a call on this scene, 0 if none does; floats says whether the call's own
-// floats are in their range.
-pub fn refusal(
-    prims: usize,
-    planes: usize,
-    objects: usize,
-    kinds: &[u32],
-    lengths: &[f32],
-    plane_parts: &[u32],
-    object_parts: &[u32],
-    floats: bool,
-) -> u32
-    ensures { result ≡ refusal (scene_in prims planes objects kinds lengths plane_parts object_parts) floats }
-{
-    let parts = unless(
-        parts_fit(
-            prims,
-            planes,
-            objects,
-            kinds,
-            lengths,
-            plane_parts,
-            object_parts,
-        ),
-        6,
-        0,
-    );
-    let shapes = shapes_within(
-        prims,
-        planes,
-        objects,
-        kinds,
-        lengths,
-        plane_parts,
-        object_parts,
-    );
-    let tables = tables_hold(
-        prims,
-        planes,
-        objects,
-        kinds,
-        lengths,
-        plane_parts,
-        object_parts,
-    );
-    let ranged = unless(shapes & floats, 5, parts);
-    unless(
-        counts_within(prims, planes, objects),
-        2,
-        unless(tables, 4, ranged),
-    )
-}
-
-// Whether the counts are within their limit: the test of 2.
-pub fn counts_within(prims: usize, planes: usize, objects: usize) -> bool
-    ensures { result ≡ counts_within prims planes objects }
-{
-    at_most(prims, MAX_ENTRIES) & at_most(planes, MAX_ENTRIES) & at_most(objects, MAX_ENTRIES)
-}
-
-// Whether each table holds its entries: the test of 4.
-pub fn tables_hold(
-    prims: usize,
-    planes: usize,
-    objects: usize,
-    kinds: &[u32],
-    lengths: &[f32],
-    plane_parts: &[u32],
-    object_parts: &[u32],
-) -> bool
-    ensures { result ≡ tables_hold (scene_in prims planes objects kinds lengths plane_parts object_parts) }
-{
-    holds(kinds.len(), prims, 1)
-        & holds(lengths.len(), prims, 8)
-        & holds(plane_parts.len(), planes, 4)
-        & holds(object_parts.len(), objects, 4)
-}
-
-// Whether the tables hold their entries, and each float that a primitive uses is in its range: the
-// test of 5.
-pub fn shapes_within(
-    prims: usize,
-    planes: usize,
-    objects: usize,
-    kinds: &[u32],
-    lengths: &[f32],
-    plane_parts: &[u32],
-    object_parts: &[u32],
-) -> bool
-    ensures { result ≡ shapes_within (scene_in prims planes objects kinds lengths plane_parts object_parts) }
-{
-    if tables_hold(
-        prims,
-        planes,
-        objects,
-        kinds,
-        lengths,
-        plane_parts,
-        object_parts,
-    ) {
-        prims_within(prims, kinds, lengths)
-    } else {
-        false
+impl Scene<'_> {
+    // What refuses a call on this scene; floats says whether the call's own floats are in their
+    // range.
+    #[tactic(auto, unfolding(crate::specs::Checks::check, accept::specs::Refusal::checked))]
+    pub fn check(&self, floats: bool) -> Result<(), Refusal>
+        ensures { result ≡ check self.now floats }
+    {
+        require(self.counts_within(), Refusal::Count)?;
+        require(self.tables_hold(), Refusal::Length)?;
+        require(self.shapes_within() & floats, Refusal::Float)?;
+        require(self.parts_fit(), Refusal::Scene)
     }
-}
 
-// Whether the tables hold their entries, each kind is one of the seven, and each plane and object
-// has its primitives in the table and a base of its sort: the test of 6.
-pub fn parts_fit(
-    prims: usize,
-    planes: usize,
-    objects: usize,
-    kinds: &[u32],
-    lengths: &[f32],
-    plane_parts: &[u32],
-    object_parts: &[u32],
-) -> bool
-    ensures { result ≡ parts_fit (scene_in prims planes objects kinds lengths plane_parts object_parts) }
-{
-    if tables_hold(
-        prims,
-        planes,
-        objects,
-        kinds,
-        lengths,
-        plane_parts,
-        object_parts,
-    ) {
-        numbers_below(kinds, prims, 7)
-            & all_fit(prims, kinds, plane_parts, planes, true)
-            & all_fit(prims, kinds, object_parts, objects, false)
-    } else {
-        false
+    // Whether the counts are within their limit: the test of `Count`.
+    #[tactic(auto, unfolding(crate::specs::Checks::counts_within))]
+    pub fn counts_within(&self) -> bool
+        ensures { result ≡ counts_within self.now }
+    {
+        at_most(self.prims, MAX_ENTRIES)
+            & at_most(self.planes, MAX_ENTRIES)
+            & at_most(self.objects, MAX_ENTRIES)
     }
-}
 
-// Whether the floats of each primitive are in their range.
-fn prims_within(prims: usize, kinds: &[u32], lengths: &[f32]) -> bool
-    ensures { result ≡ every (prim_within kinds.now lengths.now) prims }
-{
-    let mut ok = true;
-    let mut k = 0;
-    while k < prims {
-        ok = ok & prim_within(kinds, lengths, k);
-        k += 1;
+    // Whether each table holds its entries: the test of `Length`.
+    #[tactic(auto, unfolding(crate::specs::Checks::tables_hold))]
+    pub fn tables_hold(&self) -> bool
+        ensures { result ≡ tables_hold self.now }
+    {
+        holds(self.kinds.len(), self.prims, 1)
+            & holds(self.lengths.len(), self.prims, 8)
+            & holds(self.plane_parts.len(), self.planes, 4)
+            & holds(self.object_parts.len(), self.objects, 4)
     }
-    ok
-}
 
-// Whether the floats of primitive k are in their range. A kind over 6 uses none.
-fn prim_within(kinds: &[u32], lengths: &[f32], k: usize) -> bool
-    ensures { result ≡ prim_within kinds.now lengths.now k }
-{
-    if number_at(kinds, k) > 6 {
-        true
-    } else {
-        shape_within(shape_at(kinds, lengths, k))
+    // Whether the tables hold their entries, and each float that a primitive uses is in its range:
+    // the test of `Float`.
+    #[tactic(auto, unfolding(crate::specs::Checks::shapes_within))]
+    pub fn shapes_within(&self) -> bool
+        ensures { result ≡ shapes_within self.now }
+    {
+        if self.tables_hold() {
+            self.prims_within()
+        } else {
+            false
+        }
+    }
+
+    // Whether the tables hold their entries, each kind is one of the seven, and each plane and object
+    // has its primitives in the table and a base of its sort: the test of `Scene`.
+    #[tactic(auto, unfolding(crate::specs::Checks::parts_fit))]
+    pub fn parts_fit(&self) -> bool
+        ensures { result ≡ parts_fit self.now }
+    {
+        if self.tables_hold() {
+            numbers_below(self.kinds, self.prims, 7)
+                & self.all_fit(self.plane_parts, self.planes, true)
+                & self.all_fit(self.object_parts, self.objects, false)
+        } else {
+            false
+        }
+    }
+
+    // Whether the floats of each primitive are in their range.
+    #[tactic(auto, unfolding(accept::specs::Every::every))]
+    fn prims_within(&self) -> bool
+        ensures { result ≡ every (prim_within self.now) self.now.prims }
+    {
+        let mut ok = true;
+        for k in 0..self.prims {
+            ok &= self.prim_within(k);
+        }
+        ok
+    }
+
+    // Whether the floats of primitive k are in their range. A kind over 6 uses none.
+    #[tactic(auto, unfolding(crate::specs::Checks::prim_within))]
+    fn prim_within(&self, k: usize) -> bool
+        ensures { result ≡ prim_within self.now k }
+    {
+        if number_at(self.kinds, k) > 6 {
+            true
+        } else {
+            shape_within(self.shape_at(k))
+        }
+    }
+
+    // Whether each of n parts fits, as planes or as objects.
+    #[tactic(auto, unfolding(accept::specs::Every::every))]
+    fn all_fit(&self, parts: &[u32], n: usize, plane: bool) -> bool
+        ensures { result ≡ every (λ j. part_fits self.now plane (part_at parts.now j)) n }
+    {
+        let mut ok = true;
+        for j in 0..n {
+            ok &= self.part_fits(plane, part_at(parts, j));
+        }
+        ok
+    }
+
+    // Whether a part's primitives are in the table, and its base is a plane exactly where the part is.
+    #[tactic(auto, unfolding(crate::specs::Checks::part_fits))]
+    fn part_fits(&self, plane: bool, part: Part) -> bool
+        ensures { result ≡ part_fits self.now plane part }
+    {
+        let base = wide(part.base);
+        (base < self.prims)
+            & (wide(part.first) + wide(part.many) <= self.prims)
+            & ((number_at(self.kinds, base) == 2) == plane)
     }
 }
 
 // Whether every float of a shape is in its range.
+#[tactic(auto, unfolding(crate::specs::Checks::shape_within))]
 fn shape_within(shape: Shape) -> bool
     ensures { result ≡ shape_within shape }
 {
@@ -199,28 +150,4 @@ fn sizes_within(b: Vec3) -> bool
     ensures { result ≡ sizes_within b }
 {
     size_within(b.x) & size_within(b.y) & size_within(b.z)
-}
-
-// Whether each of n parts fits, as planes or as objects.
-fn all_fit(prims: usize, kinds: &[u32], parts: &[u32], n: usize, plane: bool) -> bool
-    ensures { result ≡ every (λ j. part_fits prims kinds.now plane (part_at parts.now j)) n }
-{
-    let mut ok = true;
-    let mut j = 0;
-    while j < n {
-        let part = part_at(parts, j);
-        ok = ok & part_fits(prims, kinds, plane, part);
-        j += 1;
-    }
-    ok
-}
-
-// Whether a part's primitives are in the table, and its base is a plane exactly where the part is.
-fn part_fits(prims: usize, kinds: &[u32], plane: bool, part: Part) -> bool
-    ensures { result ≡ part_fits prims kinds.now plane part }
-{
-    let base = wide(part.base);
-    (base < prims)
-        & (wide(part.first) + wide(part.many) <= prims)
-        & ((number_at(kinds, base) == 2) == plane)
 }

@@ -1,16 +1,36 @@
 // A scene lent as tables: primitives and parts read from them, and whether they are accepted.
 //
-// A scene is prims, planes and objects (counts), kinds (one number a primitive), lengths (eight
-// floats a primitive, in the order of the shape's fields) and the parts of planes and objects (four
-// numbers each: base, first subtracted, how many, material). Every public function is total: a
-// float outside a table reads as NaN, a number as 0.
+// Every public function is total: a float outside a table reads as NaN, a number as 0.
 #![tactic(auto)]
+
+ghost use Rattle.tables.specs.Tables.{Scene as LentScene, scene_of};
 
 mod checks;
 mod reading;
 
-pub use checks::{counts_within, parts_fit, refusal, shapes_within, tables_hold};
-pub use reading::{part_at, shape_at};
+pub use reading::part_at;
+use std::marker::Model;
+
+// A scene lent as tables: how many primitives, planes and objects it has; for each primitive a kind,
+// and eight floats in the order of the shape's fields; for each plane and each object four numbers,
+// its part.
+// Kept: counts stand beside slices, since C lends both and a slice may be longer or shorter.
+#[derive(Drop)]
+pub struct Scene<'a> {
+    pub prims: usize,
+    pub planes: usize,
+    pub objects: usize,
+    pub kinds: &'a [u32],
+    pub lengths: &'a [f32],
+    pub plane_parts: &'a [u32],
+    pub object_parts: &'a [u32],
+}
+
+impl<'a> Model for Scene<'a> {
+    ghost Value = { LentScene };
+
+    ghost view = { λ s. scene_of s.prims s.planes s.objects s.kinds.now s.lengths.now s.plane_parts.now s.object_parts.now };
+}
 
 // A plane or an object: its base primitive, the first that is subtracted from it, how many are, and
 // its material.

@@ -2,24 +2,29 @@
 ghost use Rattle.std.specs.Prelude.{◌≡◌, ◌+◌, ◌*◌, ◌≤◌, length};
 ghost use Rattle.vector.specs.Flat.{vec_at};
 ghost use Rattle.accept.specs.Tables.{number_at};
-ghost use Rattle.tables.specs.Tables.{shape_of, shape_at, part_at};
+ghost use Rattle.tables.specs.Tables.{shape_of, prim_of, part_at};
 
-use crate::Part;
+use crate::{Part, Scene};
 use sdf::Shape;
 use vector::{Vec3, float_at};
 
-// Primitive k.
-pub fn shape_at(kinds: &[u32], lengths: &[f32], k: usize) -> Shape
-    ensures { result ≡ shape_at kinds.now lengths.now k }
-{
-    let kind = number_at(kinds, k);
-    if k < lengths.len() / 8 {
-        return shape_of(kind, &lengths[8 * k..]);
+impl Scene<'_> {
+    // Primitive k. Each distance reads it, so it is inlined.
+    #[inline(always)]
+    #[tactic(auto, unfolding(crate::specs::Tables::shape_at))]
+    pub fn shape_at(&self, k: usize) -> Shape
+        ensures { result ≡ prim_of self.now k }
+    {
+        let kind = number_at(self.kinds, k);
+        let lengths = self.lengths;
+        if k < lengths.len() / 8 {
+            return shape_of(kind, &lengths[8 * k..]);
+        }
+        if k == lengths.len() / 8 {
+            return shape_of_rest(kind, &lengths[8 * k..]);
+        }
+        shape_of_rest(kind, &lengths[lengths.len()..])
     }
-    if k == lengths.len() / 8 {
-        return shape_of_rest(kind, &lengths[8 * k..]);
-    }
-    shape_of_rest(kind, &lengths[lengths.len()..])
 }
 
 // The shape of a kind where l may hold fewer than eight floats: one that it lacks is NaN.
@@ -40,6 +45,8 @@ fn shape_of_rest(kind: u32, l: &[f32]) -> Shape
 }
 
 // The shape of a kind with the eight floats that l begins with. A kind over 6 counts as 6.
+// Kept: a kind is a number, since C lends it so, and here it becomes the case of an enum.
+#[tactic(auto, unfolding(crate::specs::Tables::shape_of))]
 fn shape_of(kind: u32, l: &[f32]) -> Shape
     requires { 8 ≤ length l.now }
     ensures { result ≡ shape_of kind l.now }
@@ -83,6 +90,7 @@ fn shape_of(kind: u32, l: &[f32]) -> Shape
 }
 
 // Vector i of l.
+// Kept: `vector::at` asks of each float whether it is there, and a distance then takes a fifth longer.
 fn vec_at(l: &[f32], i: usize) -> Vec3
     requires { 3 * i + 3 ≤ length l.now }
     ensures { result ≡ vec_at l.now i }
@@ -95,7 +103,8 @@ fn vec_at(l: &[f32], i: usize) -> Vec3
     }
 }
 
-// Part j.
+// Part j. Each distance reads it, so it is inlined.
+#[inline(always)]
 pub fn part_at(parts: &[u32], j: usize) -> Part
     ensures { result ≡ part_at parts.now j }
 {
@@ -136,5 +145,5 @@ fn part_at_end(parts: &[u32], j: usize) -> Part
 pub fn number_at(s: &[u32], k: usize) -> u32
     ensures { result ≡ number_at s.now k }
 {
-    if k < s.len() { s[k] } else { 0 }
+    s.get(k).copied().unwrap_or(0)
 }

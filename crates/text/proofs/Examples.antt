@@ -1,7 +1,7 @@
 -- Worked examples. Assumes nothing.
 use mathlib.Core.Path.{◌≡◌, refl}
 use mathlib.Core.List.{[], ◌∷◌, map}
-use Rattle.text.specs.declared.Read.TheVariants.{Value, Absent}
+use Rattle.std.specs.Prelude.{Some, None}
 use Rattle.text.specs.Digits.{last_digits, hex_digits, decimal_within, decimal_digits, decimal_of}
 use Rattle.text.specs.Words.{spelled, word_at}
 
@@ -35,6 +35,6 @@ pub words : map (λ s. word_at s 0)
     ∷ (51 ∷ 71 ∷ 50 ∷ 65 ∷ 65 ∷ 56 ∷ 48 ∷ 48 ∷ [])
     ∷ (51 ∷ 70 ∷ 50 ∷ 65 ∷ 65 ∷ 56 ∷ 48 ∷ [])
     ∷ [])
-    ≡ Value 0x3f2aa800 ∷ Absent ∷ Absent ∷ Absent ∷ []
+    ≡ Some 0x3f2aa800 ∷ None ∷ None ∷ None ∷ []
 unfolding spelled
 words = refl

@@ -1,7 +1,7 @@
 -- What is written is read back, nothing else is read as a word, and a number takes the fewest decimal digits. Assumes nothing.
 use Prim.Native.Nat.{ℕ, zero, suc, ◌+◌, ◌*◌, ◌-◌, ◌/◌, ◌%◌, ◌^◌, ◌≤◌, ◌<◌}
 use mathlib.Core.Path.{◌≡◌, refl, sym, ap, ◌∙◌}
-use mathlib.Core.Bool.{Bool, true, false, cond, ◌&&◌, and-eq-true_iff}
+use mathlib.Core.Bool.{Bool, true, false, cond, ◌&&◌}
 use mathlib.Core.List.{List, [], ◌∷◌, ◌++◌, append-nil, append_assoc}
 use native.Mathlib.Omega.{arith}
 use native.Mathlib.Nat.{pow-suc, pow-succ', mul_assoc, mod-lt, div-one, div-div-eq-div-mul, sub-zero, suc-sub-suc}
@@ -10,24 +10,26 @@ use lib.Dec.{leb, ltb}
 use lib.ListN.{length, take, drop, length-append, length-take, length-drop}
 use lib.Seq.{append_snoc, take_at, take-append_seam, drop-append_seam}
 use borrow.Author.Tests.{lt-ltb, le-ltb, le-leb, lt-leb, ltb-true, ltb-false, leb-true}
-use Rattle.text.specs.declared.Read.TheVariants.{Value, Absent}
+use Rattle.std.specs.Prelude.{Option, Some, None, option_and_then}
 use Rattle.text.specs.Digits.{glyph, last_digits, hex_digits, decimal_within, decimal_digits, decimal_of}
 use Rattle.text.specs.Words.{digit_of, spelled, word_at}
 use Rattle.text.proofs.Spelling.{length_digits}
+use Rattle.text.proofs.Words.{within, digit_below}
 
 -- eight digits a word
 pub length_hex : (w : ℕ) → length (hex_digits w) ≡ 8
 length_hex w = length_digits 16 8 w
 
 -- a digit's character has the digit's value
-digit_glyph : (d : ℕ) → d < 16 → digit_of (glyph d) ≡ d
+digit_glyph : (d : ℕ) → d < 16 → digit_of (glyph d) ≡ Some d
 digit_glyph d h = by (ltb d 10) refl
   where
-    by : (t : Bool) → ltb d 10 ≡ t → digit_of (cond t (48 + d) (55 + d)) ≡ d
-    by true e = rw (le-leb 48 (48 + d) (omega arith), le-leb (48 + d) 57 (omega (arith, ltb-true d 10 e))) (omega arith)
+    by : (t : Bool) → ltb d 10 ≡ t → digit_of (cond t (48 + d) (55 + d)) ≡ Some d
+    by true e =
+        rw (le-leb 48 (48 + d) (omega arith), le-leb (48 + d) 57 (omega (arith, ltb-true d 10 e))) (ap Some (omega arith))
     by false e =
         let g : 10 ≤ d = ltb-false d 10 e in
-        rw (le-leb 48 (55 + d) (omega arith), lt-leb (55 + d) 57 (omega arith), le-leb 65 (55 + d) (omega arith), le-leb (55 + d) 70 (omega arith)) (omega arith)
+        rw (le-leb 48 (55 + d) (omega arith), lt-leb (55 + d) 57 (omega arith), le-leb 65 (55 + d) (omega arith), le-leb (55 + d) 70 (omega arith)) (ap Some (omega arith))
 
 -- k digits, and then what follows them, are read as the number that they spell, and then what follows
 read_digits : (k m w : ℕ) (t : List ℕ) → w < 16 ^ k → spelled m (last_digits 16 k w ++ t) ≡ spelled (m * 16 ^ k + w) t
@@ -36,30 +38,26 @@ read_digits zero m w t h = ap (λ (n : ℕ). spelled n t) (omega arith)
 read_digits (suc k) m w t h =
     let p : 16 ^ suc k ≡ 16 ^ k * 16 = pow-suc 16 k in
     let d : w % 16 < 16 = mod-lt w (omega arith) in
-    rw (append_snoc, read_digits k m (w / 16) (glyph (w % 16) ∷ t) (omega arith), digit_glyph (w % 16) d, lt-ltb (w % 16) 16 d)
+    rw (append_snoc, read_digits k m (w / 16) (glyph (w % 16) ∷ t) (omega arith), digit_glyph (w % 16) d)
     (ap (λ (n : ℕ). spelled n t) (omega (arith, ap (λ (q : ℕ). m * q) p ∙ sym (mul_assoc m (16 ^ k) 16))))
 
 -- a word that `hex` wrote is read back, wherever it stands
-pub read_back : (pre post : List ℕ) (w : ℕ) → w < 2 ^ 32 → word_at (pre ++ hex_digits w ++ post) (length pre) ≡ Value w
+pub read_back : (pre post : List ℕ) (w : ℕ) → w < 2 ^ 32 → word_at (pre ++ hex_digits w ++ post) (length pre) ≡ Some w
 unfolding spelled
 read_back pre post w h =
     let l : length pre + 8 ≤ length (pre ++ (hex_digits w ++ post)) = simp (length-append, length_hex) (omega arith) in
     rw (append_assoc pre (hex_digits w) post, le-leb (length pre + 8) (length (pre ++ (hex_digits w ++ post))) l, drop-append_seam pre (hex_digits w ++ post), take_at (hex_digits w) post 8 (length_hex w))
-    (ap (spelled 0) (sym (append-nil (hex_digits w))) ∙ read_digits 8 0 w [] (omega arith) ∙ ap Value (omega arith))
-
--- a test of both ends of a range that passes
-within : (a b c : ℕ) → (leb a b && leb b c) ≡ true → (a ≤ b) × (b ≤ c)
-within a b c e = let both = (and-eq-true_iff (leb a b) (leb b c)).0 e in (leb-true a b both.0, leb-true b c both.1)
+    (ap (spelled 0) (sym (append-nil (hex_digits w))) ∙ read_digits 8 0 w [] (omega arith) ∙ ap Some (omega arith))
 
 -- a character that has a digit's value is that digit's
-glyph_digit : (b : ℕ) → digit_of b < 16 → glyph (digit_of b) ≡ b
-glyph_digit b h = by (leb 48 b && leb b 57) (leb 65 b && leb b 70) refl refl h
+glyph_digit : (b d : ℕ) → digit_of b ≡ Some d → glyph d ≡ b
+glyph_digit b d h = by (leb 48 b && leb b 57) (leb 65 b && leb b 70) refl refl h
   where
-    by : (t u : Bool) → (leb 48 b && leb b 57) ≡ t → (leb 65 b && leb b 70) ≡ u → cond t (b - 48) (cond u (b - 55) 16) < 16
-        → glyph (cond t (b - 48) (cond u (b - 55) 16)) ≡ b
-    by true u e f g = let r = within 48 b 57 e in rw (lt-ltb (b - 48) 10 (omega arith)) (omega arith)
-    by false true e f g = let r = within 65 b 70 f in rw (le-ltb (b - 55) 10 (omega arith)) (omega arith)
-    by false false e f g = absurd (omega arith)
+    by : (t u : Bool) → (leb 48 b && leb b 57) ≡ t → (leb 65 b && leb b 70) ≡ u → cond t (Some (b - 48)) (cond u (Some (b - 55)) None) ≡ Some d
+        → glyph d ≡ b
+    by true u e f g = let r = within 48 b 57 e in let x : b - 48 ≡ d = grind arith in rw (lt-ltb d 10 (omega arith)) (omega arith)
+    by false true e f g = let r = within 65 b 70 f in let x : b - 55 ≡ d = grind arith in rw (le-ltb d 10 (omega arith)) (omega arith)
+    by false false e f g = absurd (grind arith)
 
 -- the first digit, and then the others
 first_digit : (k n : ℕ) → last_digits 16 (suc k) n ≡ glyph (n / 16 ^ k % 16) ∷ last_digits 16 k n
@@ -70,35 +68,35 @@ first_digit (suc k) n =
     rw (first_digit k (n / 16), e)
 
 -- digits that are read as w after those of m are the last digits of w, and m is what is before them
-only_digits : (l : List ℕ) (m w : ℕ) → spelled m l ≡ Value w → (l ≡ last_digits 16 (length l) w) × (w / 16 ^ length l ≡ m)
+only_digits : (l : List ℕ) (m w : ℕ) → spelled m l ≡ Some w → (l ≡ last_digits 16 (length l) w) × (w / 16 ^ length l ≡ m)
 unfolding spelled last_digits
-only_digits [] m w h = (refl, rw div-one (let e : m ≡ w = cc in sym e))
-only_digits (b ∷ bs) m w h = by (ltb (digit_of b) 16) refl (only_digits bs (m * 16 + digit_of b) w) h
+only_digits [] m w h = (refl, rw div-one (let e : m ≡ w = grind arith in sym e))
+only_digits (b ∷ bs) m w h = by (digit_of b) refl (λ d. only_digits bs (m * 16 + d) w) h
   where
-    by : (t : Bool) → ltb (digit_of b) 16 ≡ t
-        → (spelled (m * 16 + digit_of b) bs ≡ Value w → (bs ≡ last_digits 16 (length bs) w) × (w / 16 ^ length bs ≡ m * 16 + digit_of b))
-        → cond t (spelled (m * 16 + digit_of b) bs) Absent ≡ Value w
+    by : (o : Option ℕ) → digit_of b ≡ o
+        → ((d : ℕ) → spelled (m * 16 + d) bs ≡ Some w → (bs ≡ last_digits 16 (length bs) w) × (w / 16 ^ length bs ≡ m * 16 + d))
+        → option_and_then (λ d. spelled (m * 16 + d) bs) o ≡ Some w
         → (b ∷ bs ≡ last_digits 16 (suc (length bs)) w) × (w / 16 ^ suc (length bs) ≡ m)
-    by true e ih g =
-        let d : digit_of b < 16 = ltb-true (digit_of b) 16 e in
-        let r = ih g in
-        let x : (m * 16 + digit_of b) % 16 ≡ digit_of b = omega arith in
-        let y : (m * 16 + digit_of b) / 16 ≡ m = omega arith in (
-          rw (first_digit (length bs) w, r.1, x, glyph_digit b d, ← r.0),
+    by (Some d) e ih g =
+        let low = digit_below b d e in
+        let r = ih d g in
+        let x : (m * 16 + d) % 16 ≡ d = omega arith in
+        let y : (m * 16 + d) / 16 ≡ m = omega arith in (
+          rw (first_digit (length bs) w, r.1, x, glyph_digit b d e, ← r.0),
           rw (pow-suc 16 (length bs), ← div-div-eq-div-mul w (16 ^ length bs) 16, r.1, y),
         )
-    by false e ih g = let z : ◌≡◌ {A = ℕ} 0 1 = cc in absurd (omega arith)
+    by None e ih g = absurd (grind arith)
 
 -- a word is read only where its own eight digits stand
-pub only_hex : (s : List ℕ) (at w : ℕ) → word_at s at ≡ Value w → (take 8 (drop at s) ≡ hex_digits w) × (w < 2 ^ 32)
+pub only_hex : (s : List ℕ) (at w : ℕ) → word_at s at ≡ Some w → (take 8 (drop at s) ≡ hex_digits w) × (w < 2 ^ 32)
 only_hex s at w h = by (leb (at + 8) (length s)) refl h
   where
-    by : (t : Bool) → leb (at + 8) (length s) ≡ t → cond t (spelled 0 (take 8 (drop at s))) Absent ≡ Value w
+    by : (t : Bool) → leb (at + 8) (length s) ≡ t → cond t (spelled 0 (take 8 (drop at s))) None ≡ Some w
         → (take 8 (drop at s) ≡ hex_digits w) × (w < 2 ^ 32)
     by true e g =
         let l : length (take 8 (drop at s)) ≡ 8 = simp (length-take, length-drop) (omega (arith, leb-true (at + 8) (length s) e)) in
         let r = rw l at (only_digits (take 8 (drop at s)) 0 w g) in (r.0, omega arith)
-    by false e g = let z : ◌≡◌ {A = ℕ} 0 1 = cc in absurd (omega arith)
+    by false e g = absurd (grind arith)
 
 -- l decimal digits hold n, and fewer do not, unless l is 1
 abbrev pub Fewest : ℕ → ℕ → Type 0

@@ -7,14 +7,8 @@ ghost use Rattle.std.proofs.lemmas.List.Edits.{sets};
 pub fn put(out: &mut [u8], at: usize, s: &[u8])
     ensures { out.new ≡ sets out.old at s.now }
 {
-    let mut to = at;
-    let mut i = 0;
-    while i < s.len() {
-        if out.len() <= to {
-            return;
-        }
-        out[to] = s[i];
-        to += 1;
-        i += 1;
+    if at < out.len() {
+        let n = s.len().min(out.len() - at);
+        out[at..at + n].copy_from_slice(&s[..n]);
     }
 }

@@ -1,4 +1,6 @@
 // A u32 as text.
+//
+// Kept: digits are put into lent bytes, since `Display` writes to what may fail, and this can't.
 ghost use Rattle.std.specs.Prelude.{◌≤◌, ◌<◌, ◌≡◌, ◌++◌, length, drop};
 ghost use Rattle.text.specs.Digits.{last_digits, hex_digits, decimal_digits, decimal_of};
 ghost use Rattle.text.specs.Digits.{glyph as Digits·glyph};
@@ -25,6 +27,7 @@ pub fn decimal(n: u32) -> Numeral
 }
 
 // How many decimal digits n takes.
+// Kept: a turn takes one digit off, and no range says how many there are.
 fn places(n: u32) -> usize
     ensures { result ≡ length (decimal_digits n) }
 {
@@ -42,10 +45,8 @@ fn spell(n: u32, base: u32, k: usize, out: &mut [u8])
     requires { (0 < base) × (base ≤ 16) × (k ≤ length out.old) }
     ensures { out.new ≡ last_digits base k n ++ drop k out.old }
 {
-    let mut i = k;
     let mut rest = n;
-    while 0 < i {
-        i -= 1;
+    for i in (0..k).rev() {
         out[i] = glyph(rest % base);
         rest /= base;
     }
@@ -56,5 +57,9 @@ fn glyph(d: u32) -> u8
     requires { d < 16 }
     ensures { result ≡ Digits·glyph d }
 {
-    if d < 10 { 48 + d as u8 } else { 55 + d as u8 }
+    if d < 10 {
+        b'0' + d as u8
+    } else {
+        b'A' + (d - 10) as u8
+    }
 }

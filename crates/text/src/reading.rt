@@ -1,40 +1,31 @@
 // A word read from text.
+//
+// Kept: the library's `from_str_radix` takes lower-case digits and a sign too.
 ghost use Rattle.std.specs.Prelude.{◌≡◌};
 ghost use Rattle.text.specs.Words.{digit_of, word_at};
 
-use crate::Read;
-
-// The word that the eight upper-case hexadecimal digits from place `at` on spell; absent where one
-// of the eight bytes is no such digit, and where s ends before the last of them.
-pub fn word(s: &[u8], at: usize) -> Read
+// The word that the eight upper-case hexadecimal digits from place `at` on spell; none where one of
+// the eight bytes is no such digit, and where s ends before the last of them.
+pub fn word(s: &[u8], at: usize) -> Option<u32>
     ensures { result ≡ word_at s.now at }
 {
-    if s.len() < 8 {
-        return Read::Absent;
-    }
-    if s.len() - 8 < at {
-        return Read::Absent;
+    if s.len() < 8 || s.len() - 8 < at {
+        return None;
     }
     let mut n: u32 = 0;
-    let mut i = 0;
-    while i < 8 {
-        let d = digit(s[at + i]);
-        if 16 <= d {
-            return Read::Absent;
-        }
-        n = n * 16 + d;
-        i += 1;
+    for i in 0..8 {
+        n = n * 16 + digit(s[at + i])?;
     }
-    Read::Value(n)
+    Some(n)
 }
 
-// The value of an upper-case hexadecimal digit, 16 for any other byte.
-fn digit(b: u8) -> u32
+// The value of an upper-case hexadecimal digit, none for any other byte.
+fn digit(b: u8) -> Option<u32>
     ensures { result ≡ digit_of b }
 {
     match b {
-        48..=57 => (b - 48) as u32,
-        65..=70 => (b - 55) as u32,
-        _ => 16,
+        b'0'..=b'9' => Some((b - b'0') as u32),
+        b'A'..=b'F' => Some((b - b'A') as u32 + 10),
+        _ => None,
     }
 }

@@ -4,37 +4,37 @@ use mathlib.Core.List.{List, [], ◌∷◌}
 use mathlib.Core.Path.{◌≡◌}
 use Prim.Native.Nat.{ℕ, ◌*◌, ◌≤◌}
 use native.Mathlib.Omega.{arith}
+use Rattle.std.specs.Prelude.{Ok}
 use lib.Dec.{leb, ltb}
 use lib.Ieee.{Float}
 use lib.ListN.{length}
 use borrow.Author.Tests.{leb-true}
-use Rattle.accept.specs.Refusal.{first_failed}
+use Rattle.accept.specs.Refusal.{checked}
 use Rattle.accept.specs.Tables.{holds, column, numbers_below, links_ascend, ranges_contiguous}
 use Rattle.accept.proofs.Bounded.{three_each, numbers_below_at}
 use Rattle.accept.proofs.Every.{conj_each}
 use Rattle.accept.proofs.Joined.{ranges_joined}
-use Rattle.accept.proofs.Refused.{none_failed}
+use Rattle.accept.proofs.Refused.{none_refused}
 use Rattle.accept.proofs.Starts.{links_ascending}
 use Rattle.transfer.specs.Room.{Clusters, Rows, Room, Light, light_of}
 use Rattle.transfer.specs.Needs.{ClustersHeld, RowsHeld, Accepted}
-use Rattle.transfer.specs.Checks.{counts_within, surfels_hold, clusters_hold, rows_hold, floats_fit, numbers_fit, refusal}
+use Rattle.transfer.specs.Checks.{counts_within, surfels_hold, clusters_hold, rows_hold, floats_fit, numbers_fit, check}
 
 -- each test of a solve that is not refused passed
 pub record Answered (r : Room) (limit irr rad scratch : ℕ) : Type 0 where
   pub counts_passed : counts_within r.n r.clusters.nc r.clusters.members r.rows.links limit ≡ true
-  pub surfels_passed : surfels_hold r.n r.albedo r.area r.direct irr rad ≡ true
+  pub surfels_passed : surfels_hold r irr rad ≡ true
   pub clusters_passed : clusters_hold r.clusters scratch ≡ true
   pub rows_passed : rows_hold r.n r.rows ≡ true
-  pub floats_passed : floats_fit r.n r.clusters.nc r.rows.links r.albedo r.area r.direct r.clusters.area r.rows.weight ≡ true
-  pub numbers_passed : numbers_fit r.n r.clusters.nc r.clusters.members r.rows.links r.clusters.first r.clusters.count r.clusters.member r.rows.starts
-      r.rows.cluster ≡ true
+  pub floats_passed : floats_fit r ≡ true
+  pub numbers_passed : numbers_fit r ≡ true
 
--- the number 0 says so
-pub not_refused : (r : Room) (limit irr rad scratch : ℕ) → refusal r limit irr rad scratch ≡ 0 → Answered r limit irr rad scratch
-unfolding refusal
+-- a solve that is not refused passed them all
+pub not_refused : (r : Room) (limit irr rad scratch : ℕ) → check r limit irr rad scratch ≡ Ok tt → Answered r limit irr rad scratch
+unfolding check
 not_refused r limit irr rad scratch e =
-    let t = none_failed _ tt e in
-    let lent = conj_each (surfels_hold r.n r.albedo r.area r.direct irr rad ∷ clusters_hold r.clusters scratch ∷ rows_hold r.n r.rows ∷ []) t.1.0 in
+    let t = none_refused _ e in
+    let lent = conj_each (surfels_hold r irr rad ∷ clusters_hold r.clusters scratch ∷ rows_hold r.n r.rows ∷ []) t.1.0 in
     record {
       counts_passed = t.0;
       surfels_passed = lent.0;
@@ -44,30 +44,30 @@ not_refused r limit irr rad scratch e =
       numbers_passed = t.1.1.1.0;
     }
 
--- and a solve whose tests passed has that number
-pub all_passed : (r : Room) (limit irr rad scratch : ℕ) → Answered r limit irr rad scratch → refusal r limit irr rad scratch ≡ 0
-unfolding refusal first_failed
+-- and a solve whose tests passed is not refused
+pub all_passed : (r : Room) (limit irr rad scratch : ℕ) → Answered r limit irr rad scratch → check r limit irr rad scratch ≡ Ok tt
+unfolding check checked
 all_passed r limit irr rad scratch a =
     rw (a.counts_passed, a.surfels_passed, a.clusters_passed, a.rows_passed, a.floats_passed, a.numbers_passed)
 
--- the columns of n surfels have an entry for each
-record SurfelsHeld (n : ℕ) (albedo area direct : List Float) (irr rad : ℕ) : Type 0 where
-  pub albedos : 3 * n ≤ length albedo
-  pub areas : n ≤ length area
-  pub directs : 3 * n ≤ length direct
-  pub irrs : 3 * n ≤ irr
-  pub rads : 3 * n ≤ rad
+-- the columns of the surfels have an entry for each
+record SurfelsHeld (r : Room) (irr rad : ℕ) : Type 0 where
+  pub albedos : 3 * r.n ≤ length r.albedo
+  pub areas : r.n ≤ length r.area
+  pub directs : 3 * r.n ≤ length r.direct
+  pub irrs : 3 * r.n ≤ irr
+  pub rads : 3 * r.n ≤ rad
 
-surfels_held : (n : ℕ) (albedo area direct : List Float) (irr rad : ℕ) → surfels_hold n albedo area direct irr rad ≡ true → SurfelsHeld n albedo area direct irr rad
+surfels_held : (r : Room) (irr rad : ℕ) → surfels_hold r irr rad ≡ true → SurfelsHeld r irr rad
 unfolding surfels_hold
-surfels_held n albedo area direct irr rad e =
-    let h = conj_each (column albedo n ∷ leb n (length area) ∷ column direct n ∷ holds irr n 3 ∷ holds rad n 3 ∷ []) e in
+surfels_held r irr rad e =
+    let h = conj_each (column r.albedo r.n ∷ leb r.n (length r.area) ∷ column r.direct r.n ∷ holds irr r.n 3 ∷ holds rad r.n 3 ∷ []) e in
     record {
-      albedos = three_each (length albedo) n h.0;
+      albedos = three_each (length r.albedo) r.n h.0;
       areas = leb-true _ _ h.1.0;
-      directs = three_each (length direct) n h.1.1.0;
-      irrs = three_each irr n h.1.1.1.0;
-      rads = three_each rad n h.1.1.1.1.0;
+      directs = three_each (length r.direct) r.n h.1.1.0;
+      irrs = three_each irr r.n h.1.1.1.0;
+      rads = three_each rad r.n h.1.1.1.1.0;
     }
 
 -- there is an area for each cluster, and scratch for its light
@@ -125,7 +125,7 @@ unfolding numbers_fit
 answered_accepted r limit irr rad s a =
     let cs = r.clusters in
     let rs = r.rows in
-    let column = surfels_held r.n r.albedo r.area r.direct (length irr) (length rad) a.surfels_passed in
+    let column = surfels_held r (length irr) (length rad) a.surfels_passed in
     let lent = clusters_lent cs (length s) a.clusters_passed in
     let number =
     conj_each
@@ -145,7 +145,7 @@ answered_accepted r limit irr rad s a =
     }
 
 -- and so is one that is not refused
-pub accepted : (r : Room) (limit : ℕ) (irr rad s : List Float) → refusal r limit (length irr) (length rad) (length s) ≡ 0 → Accepted r (light_of irr rad) s
+pub accepted : (r : Room) (limit : ℕ) (irr rad s : List Float) → check r limit (length irr) (length rad) (length s) ≡ Ok tt → Accepted r (light_of irr rad) s
 accepted r limit irr rad s e = answered_accepted r limit irr rad s (not_refused r limit (length irr) (length rad) (length s) e)
 
 -- of the list for the clusters' light, rows ask only the length

@@ -18,11 +18,11 @@ pub record ClustersHeld (n : ℕ) (cs : Clusters) (area rad : List Float) : Type
   pub inside : (c : ℕ) → c < cs.nc → number_at cs.first c + number_at cs.count c ≤ cs.members
   pub each : MembersHeld n cs.members cs.member area rad
 
--- each of so many links has a weight and one of nc clusters, whose light is there
-pub record LinksHeld (nc links : ℕ) (cluster : List ℕ) (weight light : List Float) : Type 0 where
-  pub clusters : links ≤ length cluster
-  pub weights : links ≤ length weight
-  pub below : (k : ℕ) → k < links → number_at cluster k < nc
+-- each link has a weight and one of nc clusters, whose light is there
+pub record LinksHeld (nc : ℕ) (rs : Rows) (light : List Float) : Type 0 where
+  pub clusters : rs.links ≤ length rs.cluster
+  pub weights : rs.links ≤ length rs.weight
+  pub below : (k : ℕ) → k < rs.links → number_at rs.cluster k < nc
   pub lights : 3 * nc ≤ length light
 
 -- n rows have their starts, which do not fall, and their links
@@ -30,7 +30,7 @@ pub record RowsHeld (n nc : ℕ) (rs : Rows) (light : List Float) : Type 0 where
   pub started : n < length rs.starts
   pub rising : (i : ℕ) → i < n → number_at rs.starts i ≤ number_at rs.starts (i + 1)
   pub inside : (i : ℕ) → i ≤ n → number_at rs.starts i ≤ rs.links
-  pub each : LinksHeld nc rs.links rs.cluster rs.weight light
+  pub each : LinksHeld nc rs light
 
 -- a room that a solve accepts, with its light and a list for the clusters' light
 pub record Accepted (r : Room) (l : Light) (light : List Float) : Type 0 where

@@ -4,5 +4,7 @@
 #![tactic(auto)]
 
 mod checks;
+mod lent;
 
-pub use checks::refusal;
+pub use checks::check;
+pub use lent::{Clusters, Room, Rows};

@@ -7,7 +7,9 @@ use native.Mathlib.Nat.{add-zero, add-suc, zero-add, eq-or-lt_of_le}
 use native.Mathlib.Numerals.{add-one}
 use native.Mathlib.Omega.{arith}
 use lib.ListN.{length, get_or, set, take, drop, length-append, length-take, take-append-drop}
-use lib.Seq.{drop-drop, slice, slice_empty, length-slice, sets, sets-eq, take-nil, take-suc, take_at, drop_at, drop-append-le, drop-set-lt, get_or-drop, get_or-take, length-take-le}
+use borrow.Rule.Slice.PartMut.{put_mid}
+use lib.Seq.{drop-drop, slice, slice_empty, length-slice, sets, sets-eq, take-nil, take-suc, take_at, drop_at, drop-append-le, drop-set-lt, get_or-drop, get_or-take, length-take-le, take-length}
+use Rattle.std.proofs.lemmas.Slice.{put_mid-paste}
 use Rattle.vector.specs.Flat.{rows}
 
 -- storing two lists is storing one, and the other after it
@@ -24,11 +26,6 @@ sets_front_append {A} l xs ys = sets_append l 0 xs ys ∙ ap (λ (k : ℕ). sets
 pub drop_sets : {A : Type 0} (l : List A) (i : ℕ) (xs : List A) (k : ℕ) → i + length xs ≤ k → drop k (sets l i xs) ≡ drop k l
 drop_sets l i [] k h = refl
 drop_sets l i (x ∷ xs) k h = drop_sets (set l i x) (suc i) xs k (omega arith) ∙ drop-set-lt k l i x (omega arith)
-
-pub past_sets : {A : Type 0} (l : List A) (i : ℕ) (xs : List A) (j : ℕ) (d : A) → i + length xs ≤ j → get_or (sets l i xs) j d ≡ get_or l j d
-past_sets {A} l i xs j d h =
-    let at : (m : List A) → get_or m j d ≡ get_or (drop j m) 0 d = λ m. sym (get_or-drop j m 0 d ∙ ap (λ (k : ℕ). get_or m k d) (add-zero j)) in
-    at (sets l i xs) ∙ ap (λ (m : List A). get_or m 0 d) (drop_sets l i xs j h) ∙ sym (at l)
 
 -- what lies past a place lies past any later one
 pub past_later : {A : Type 0} (j k : ℕ) (l m : List A) → j ≤ k → drop j l ≡ drop j m → drop k l ≡ drop k m
@@ -71,11 +68,13 @@ sets_over {A} l xs ys e h =
     ∙ ap (λ (k : ℕ). ys ++ drop k l) (sym e)
     ∙ sym (sets_front l ys (omega (arith, e)))
 
--- d has the first j elements of s stored from place i on, and e has the next stored after them
-pub take_stored : {A : Type 0} (l s : List A) (i j : ℕ) (z : A) {d e : List A} {x : A} → j < length s
-    → d ≡ sets l i (take j s) → x ≡ get_or s j z → e ≡ set d (i + j) x → e ≡ sets l i (take (j + 1) s)
-take_stored l s i j z h p q r =
-    rw (r, q, p, add-one j, take-suc s j z h, sets_append l i (take j s), length-take-le j s (omega arith))
+-- a part of l, written over by as many elements, has them stored from its first place on
+pub sets_part : {A : Type 0} (l ys : List A) (i k : ℕ) → length ys ≡ k → i + k ≤ length l → put_mid i k l ys ≡ sets l i ys
+sets_part {A} l ys i k e h =
+    put_mid-paste i k l ys ys k refl refl (sym e)
+    ∙ ap (λ (m : List A). take i l ++ m ++ drop (i + k) l) (ap (λ (j : ℕ). take j ys) (sym e) ∙ take-length ys)
+    ∙ ap (λ (j : ℕ). take i l ++ ys ++ drop (i + j) l) (sym e)
+    ∙ sym (sets-eq ys l i (rw e h))
 
 -- one element more of a slice
 pub slice_more : {A : Type 0} (f t : ℕ) (l : List A) (z : A) → f ≤ t → t < length l → slice f (t + 1) l ≡ slice f t l ++ (get_or l t z ∷ [])

@@ -18,6 +18,7 @@ impl Vec3 {
     }
 
     // The dot product: the products of x, then y, then z, summed left to right.
+    #[tactic(auto, unfolding(crate::specs::Vector::dot))]
     pub fn dot(self, o: Vec3) -> f32
         ensures { result ≡ dot self o }
     {
@@ -25,6 +26,7 @@ impl Vec3 {
     }
 
     // The cross product.
+    #[tactic(auto, unfolding(crate::specs::Vector::cross))]
     pub fn cross(self, o: Vec3) -> Vec3
         ensures { result ≡ cross self o }
     {
@@ -36,6 +38,7 @@ impl Vec3 {
     }
 
     // The sum, component by component.
+    #[tactic(auto, unfolding(crate::specs::Vector::plus))]
     pub fn plus(self, o: Vec3) -> Vec3
         ensures { result ≡ plus self o }
     {
@@ -47,6 +50,7 @@ impl Vec3 {
     }
 
     // The difference, component by component.
+    #[tactic(auto, unfolding(crate::specs::Vector::minus))]
     pub fn minus(self, o: Vec3) -> Vec3
         ensures { result ≡ minus self o }
     {
@@ -58,6 +62,7 @@ impl Vec3 {
     }
 
     // The vector the other way: each sign turned, a zero's too.
+    #[tactic(auto, unfolding(crate::specs::Vector::negated))]
     pub fn negated(self) -> Vec3
         ensures { result ≡ negated self }
     {
@@ -69,6 +74,7 @@ impl Vec3 {
     }
 
     // Each component times k.
+    #[tactic(auto, unfolding(crate::specs::Vector::scaled))]
     pub fn scaled(self, k: f32) -> Vec3
         ensures { result ≡ scaled self k }
     {
@@ -80,6 +86,7 @@ impl Vec3 {
     }
 
     // Each component times the other vector's.
+    #[tactic(auto, unfolding(crate::specs::Vector::times))]
     pub fn times(self, o: Vec3) -> Vec3
         ensures { result ≡ times self o }
     {
@@ -91,6 +98,7 @@ impl Vec3 {
     }
 
     // Each component divided by k: a division each, and no product with 1 / k.
+    #[tactic(auto, unfolding(crate::specs::Vector::over))]
     pub fn over(self, k: f32) -> Vec3
         ensures { result ≡ over self k }
     {
@@ -102,6 +110,7 @@ impl Vec3 {
     }
 
     // Each component without its sign.
+    #[tactic(auto, unfolding(crate::specs::Vector::absolutes))]
     pub fn abs(self) -> Vec3
         ensures { result ≡ absolutes self }
     {
@@ -113,6 +122,7 @@ impl Vec3 {
     }
 
     // The greater of each two components; a NaN is passed over.
+    #[tactic(auto, unfolding(crate::specs::Vector::greaters))]
     pub fn max(self, o: Vec3) -> Vec3
         ensures { result ≡ greaters self o }
     {
@@ -124,6 +134,7 @@ impl Vec3 {
     }
 
     // The lesser of each two components; a NaN is passed over.
+    #[tactic(auto, unfolding(crate::specs::Vector::lessers))]
     pub fn min(self, o: Vec3) -> Vec3
         ensures { result ≡ lessers self o }
     {
@@ -135,6 +146,7 @@ impl Vec3 {
     }
 
     // The greatest component; a NaN is passed over.
+    #[tactic(auto, unfolding(crate::specs::Vector::greatest))]
     pub fn max_element(self) -> f32
         ensures { result ≡ greatest self }
     {
@@ -142,6 +154,7 @@ impl Vec3 {
     }
 
     // The dot product with itself.
+    #[tactic(auto, unfolding(crate::specs::Vector::length_squared))]
     pub fn length_squared(self) -> f32
         ensures { result ≡ length_squared self }
     {
@@ -149,6 +162,7 @@ impl Vec3 {
     }
 
     // The root of the dot product with itself.
+    #[tactic(auto, unfolding(crate::specs::Vector::length_of))]
     pub fn length(self) -> f32
         ensures { result ≡ length_of self }
     {
@@ -156,6 +170,7 @@ impl Vec3 {
     }
 
     // The vector times one over its length.
+    #[tactic(auto, unfolding(crate::specs::Vector::normalize))]
     pub fn normalize(self) -> Vec3
         ensures { result ≡ normalize self }
     {

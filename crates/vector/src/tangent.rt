@@ -5,6 +5,7 @@ ghost use Rattle.vector.specs.Tangent.{sign, frame};
 use crate::{Tangents, Vec3};
 
 // The two directions that go with the normal n. Where n.z is 0, of either sign, n counts as facing up.
+#[tactic(auto, unfolding(crate::specs::Tangent::frame))]
 pub fn frame(n: Vec3) -> Tangents
     ensures { result ≡ frame n }
 {
@@ -26,6 +27,7 @@ pub fn frame(n: Vec3) -> Tangents
 }
 
 // 1 where z is 0 or more, else -1.
+#[tactic(auto, unfolding(crate::specs::Tangent::sign))]
 fn sign(z: f32) -> f32
     ensures { result ≡ sign z }
 {

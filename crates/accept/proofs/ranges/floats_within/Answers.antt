@@ -5,17 +5,17 @@ use Rattle.accept.proofs.Bounded.{holds-le}
 use Rattle.accept.proofs.ranges.floats_within.Goals as goal
 
 pub overflow_mul-n : goal.overflow_mul-n
-overflow_mul-n c =
+overflow_mul-n g c =
     let h = holds-le _ _ _ (sym c.holds.ensures ∙ c.if-holds.true) in omega arith
 
 pub all_within-requires : goal.all_within-requires
-all_within-requires c =
-    holds-le _ _ _ (sym c.holds.ensures ∙ c.if-holds.true)
+all_within-requires g c =
+    rw c.count.ensures at (holds-le _ _ _ (sym c.holds.ensures ∙ c.if-holds.true))
 
 pub returns-then-holds : goal.returns-then-holds
-returns-then-holds c =
-    rw (sym c.holds.ensures ∙ c.if-holds.true) c.all_within.ensures
+returns-then-holds g c =
+    rw (← c.count.ensures, sym c.holds.ensures ∙ c.if-holds.true) c.all_within.ensures
 
 pub returns-else-holds : goal.returns-else-holds
-returns-else-holds c =
-    rw (sym c.holds.ensures ∙ c.if-holds.false)
+returns-else-holds g c =
+    rw (← c.count.ensures, sym c.holds.ensures ∙ c.if-holds.false)

@@ -9,29 +9,29 @@ use Rattle.accept.proofs.Every.{every_none, every_more}
 use Rattle.accept.proofs.tables.all_ascend.Goals as goal
 
 pub loop-i-init : goal.loop-i-init
-loop-i-init c =
+loop-i-init g c =
     (search rules, every_none _)
 
 pub ascends-ok-requires : goal.ascends-ok-requires
-ascends-ok-requires c =
+ascends-ok-requires g c =
     let i = c.loop-i.i in
-    let h = is_monotone (number_at c.args.starts.now) c.args.n c.args.count c.requires.count_value in
+    let h = is_monotone (number_at (g.N.Listed.items c.args.starts)) c.args.n c.args.count c.requires.count_value in
     let u = h.rising i c.loop-i-test.true in
     let v = h.inside (i + 1) (omega arith) in
     record {
-      a_le_b = omega (arith, c.wide-in-loop-i, c.wide, c.requires);
-      b_in_bounds = omega (arith, c.wide-in-loop-i, c.wide, c.requires);
+      a_le_b = omega (arith, c.wide-in-loop-i.ensures, c.wide.ensures, c.item.ensures 0, c.item-in-loop-i.ensures 0, c.requires);
+      b_in_bounds = omega (arith, c.wide-in-loop-i.ensures, c.wide.ensures, c.item.ensures 0, c.item-in-loop-i.ensures 0, c.requires);
     }
 
 pub loop-i-preserved : goal.loop-i-preserved
-loop-i-preserved c = (
+loop-i-preserved g c = (
   search rules,
   every_more _ _ c.loop-i.invariant.1
-      (rw (← c.wide-in-loop-i.ensures, ← c.wide.ensures) c.ascends-ok.ensures),
+      (rw (← c.item-in-loop-i.ensures 0, ← c.item.ensures 0, ← c.wide-in-loop-i.ensures, ← c.wide.ensures) c.ascends-ok.ensures),
 )
 
 pub returns : goal.returns
 unfolding all_ascend
-returns c =
+returns g c =
     let e : c.loop-i.i ≡ c.args.n = omega arith in
     rw e at c.loop-i.invariant.1

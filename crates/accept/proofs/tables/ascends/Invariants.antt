@@ -1,4 +1,4 @@
--- `accept::tables::ascends` meets its contract. The loop has compared the first j links of the row with the next. Assumes nothing.
+-- `accept::tables::ascends` meets its contract. The loop has compared the links of the row before the link j with the next. Assumes nothing.
 use mathlib.Core.Path.{◌≡◌}
 use Prim.Native.Nat.{◌+◌, ◌-◌, ◌≤◌}
 use lib.Dec.{ltb}
@@ -7,7 +7,4 @@ use Rattle.accept.specs.Tables.{number_at}
 use Rattle.accept.proofs.tables.ascends.Given as goal
 
 abbrev pub invariant-loop-j : goal.invariant-loop-j
-invariant-loop-j l = (l.j ≤ l.b - l.a - 1) × (l.ok ≡ every (λ i. ltb (number_at l.links (l.a + i)) (number_at l.links (l.a + i + 1))) l.j)
-
-abbrev pub decreases-loop-j : goal.decreases-loop-j
-decreases-loop-j l = l.b - l.a - l.j
+invariant-loop-j g l = (l.j - 1 ≤ l.b - l.a - 1) × (l.ok ≡ every (λ i. ltb (number_at (g.N.Listed.items l.links) (l.a + i)) (number_at (g.N.Listed.items l.links) (l.a + i + 1))) (l.j - 1))

@@ -1,85 +1,42 @@
 -- `clusters::entries::build_clusters` meets its contract. A call that is not refused was lent what `build` needs. Assumes nothing.
-use mathlib.Core.Path.{refl, sym, ◌∙◌}
-use lib.ListN.{length}
-use Rattle.clusters.specs.Needs.{surfels_of, columns_of}
-use Rattle.clusters.proofs.Answered.{accepted, number_is, answer_done, answer_refused, open_done}
+use Rattle.std.proofs.Common.{length, refl, sym, ◌∙◌}
+use Rattle.std.proofs.lemmas.Result.{err_from_is_err_and}
+use Rattle.clusters.specs.Left.{columns_held}
+use Rattle.clusters.proofs.Answered.{accepted, answer_done, answer_refused, open_done}
 use Rattle.clusters.proofs.entries.build_clusters.Goals as goal
+
+pub returns-in_err-check : goal.returns-in_err-check
+returns-in_err-check c =
+    let a = c.args in
+    let p = err_from_is_err_and c.from_residual.result c.from_residual.ensures.1 in
+    record { columns_value = rw (p.1, p.2) (answer_refused a.surfels.now a.cut.lo a.cut.hi a.cut.res (columns_held a.columns) (length a.order.now) (length a.spare.now) (sym c.check.ensures ∙ c.in_err-check.was)); kept_from = refl; kept_from_2 = refl }
 
 pub voxels_of-requires : goal.voxels_of-requires
 voxels_of-requires c =
     let a = c.args in
-    let x = surfels_of a.n a.p.now a.normals.now a.area.now in
-    let l = columns_of a.cluster_p.now a.cluster_n.now a.cluster_area.now a.cluster_radius.now a.first.now a.count.now a.members.now in
-    let number = number_is x a.lo a.hi a.res l (length a.order.now) (length a.spare.now) c.columns_hold-columns.ensures c.refusal-number.ensures in
-    (accepted x a.lo a.hi a.res l (length a.order.now) (length a.spare.now) (sym number ∙ c.if-number-eq0.true)).sized
+    (accepted a.surfels.now a.cut.lo a.cut.hi a.cut.res (columns_held a.columns) (length a.order.now) (length a.spare.now) (sym c.check.ensures ∙ c.in_ok-check.was)).sized
+
+pub invariant_of-divided : goal.invariant_of-divided
+invariant_of-divided c =
+    let a = c.args in
+    let w = accepted a.surfels.now a.cut.lo a.cut.hi a.cut.res (columns_held a.columns) (length a.order.now) (length a.spare.now) (sym c.check.ensures ∙ c.in_ok-check.was) in
+    record { held = rw (c.lent.ensures, c.voxels_of.ensures) w.held }
 
 pub build-requires : goal.build-requires
 build-requires c =
     let a = c.args in
-    let x = surfels_of a.n a.p.now a.normals.now a.area.now in
-    let l = columns_of a.cluster_p.now a.cluster_n.now a.cluster_area.now a.cluster_radius.now a.first.now a.count.now a.members.now in
-    let number = number_is x a.lo a.hi a.res l (length a.order.now) (length a.spare.now) c.columns_hold-columns.ensures c.refusal-number.ensures in
-    let w = accepted x a.lo a.hi a.res l (length a.order.now) (length a.spare.now) (sym number ∙ c.if-number-eq0.true) in
+    let w = accepted a.surfels.now a.cut.lo a.cut.hi a.cut.res (columns_held a.columns) (length a.order.now) (length a.spare.now) (sym c.check.ensures ∙ c.in_ok-check.was) in
+    record { roomy = rw c.lent.ensures w.roomy; order_in_bounds = rw c.lent.ensures w.ordered; spare_in_bounds = rw c.lent.ensures w.spared }
+
+pub returns : goal.returns
+returns c =
+    let a = c.args in
+    let t = sym c.check.ensures ∙ c.in_ok-check.was in
+    let o = open_done a.surfels.now a.cut.lo a.cut.hi a.cut.res (columns_held a.columns) (length a.order.now) (length a.spare.now) t in
+    let v = rw (c.lent.ensures, c.voxels_of.ensures) at c.build.ensures.value in
+    let k = rw (c.lent.ensures, c.voxels_of.ensures) at c.build.ensures.columns_value in
     record {
-      resolved = rw c.voxels_of.ensures w.resolved;
-      placed = w.placed;
-      n_in_bounds = w.areas;
-      roomy = w.roomy;
-      n_in_bounds_2 = w.ordered;
-      n_in_bounds_3 = w.spared;
+      columns_value = answer_done a.surfels.now a.cut.lo a.cut.hi a.cut.res (columns_held a.columns) (length a.order.now) (length a.spare.now) t v k;
+      kept_from = rw (o, ← c.lent.ensures) c.build.ensures.kept_from;
+      kept_from_2 = rw (o, ← c.lent.ensures) c.build.ensures.kept_from_2;
     }
-
-pub shape_of-cluster_p : goal.shape_of-cluster_p
-shape_of-cluster_p c =
-    c.build.auto.cluster_p
-
-pub shape_of-cluster_n : goal.shape_of-cluster_n
-shape_of-cluster_n c =
-    c.build.auto.cluster_n
-
-pub shape_of-cluster_area : goal.shape_of-cluster_area
-shape_of-cluster_area c =
-    c.build.auto.cluster_area
-
-pub shape_of-cluster_radius : goal.shape_of-cluster_radius
-shape_of-cluster_radius c =
-    c.build.auto.cluster_radius
-
-pub shape_of-first : goal.shape_of-first
-shape_of-first c =
-    c.build.auto.first
-
-pub shape_of-count : goal.shape_of-count
-shape_of-count c =
-    c.build.auto.count
-
-pub shape_of-members : goal.shape_of-members
-shape_of-members c =
-    c.build.auto.members
-
-pub shape_of-order : goal.shape_of-order
-shape_of-order c =
-    c.build.auto.order
-
-pub shape_of-spare : goal.shape_of-spare
-shape_of-spare c =
-    c.build.auto.spare
-
-pub returns-then-number-eq0 : goal.returns-then-number-eq0
-returns-then-number-eq0 c =
-    let a = c.args in
-    let x = surfels_of a.n a.p.now a.normals.now a.area.now in
-    let l = columns_of a.cluster_p.now a.cluster_n.now a.cluster_area.now a.cluster_radius.now a.first.now a.count.now a.members.now in
-    let number = number_is x a.lo a.hi a.res l (length a.order.now) (length a.spare.now) c.columns_hold-columns.ensures c.refusal-number.ensures in
-    let z = c.if-number-eq0.true in
-    let e = rw c.voxels_of.ensures at c.build.ensures in
-    let o = open_done x a.lo a.hi a.res l (length a.order.now) (length a.spare.now) number z in
-    record { members_value = answer_done x a.lo a.hi a.res l (length a.order.now) (length a.spare.now) number z e.value e.members_value; kept_from = rw o e.kept_from; kept_from_2 = rw o e.kept_from_2 }
-
-pub returns-else-number-eq0 : goal.returns-else-number-eq0
-returns-else-number-eq0 c =
-    let a = c.args in
-    let x = surfels_of a.n a.p.now a.normals.now a.area.now in
-    let l = columns_of a.cluster_p.now a.cluster_n.now a.cluster_area.now a.cluster_radius.now a.first.now a.count.now a.members.now in
-    let number = number_is x a.lo a.hi a.res l (length a.order.now) (length a.spare.now) c.columns_hold-columns.ensures c.refusal-number.ensures in
-    record { members_value = answer_refused x a.lo a.hi a.res l (length a.order.now) (length a.spare.now) number c.if-number-eq0.false; kept_from = refl; kept_from_2 = refl }

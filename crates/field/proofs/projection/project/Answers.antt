@@ -14,26 +14,26 @@ loop-i-init c =
 pub returns-then-a-eps : goal.returns-then-a-eps
 returns-then-a-eps c =
     rw c.loop-i.invariant.1
-    (project_near _ _ _ (9 - c.loop-i.i) _ _ _ _ (omega arith) c.dist-d.ensures c.abs-a.ensures c.if-a-eps.true)
+    (project_near _ _ _ (9 - c.loop-i._i) _ _ _ _ (omega arith) c.dist-d.ensures c.abs-a.ensures c.if-a-eps.true)
 
 pub returns-then-not-is_finite : goal.returns-then-not-is_finite
 returns-then-not-is_finite c =
     rw c.loop-i.invariant.1
-    (project_lost _ _ _ (9 - c.loop-i.i) _ _ _ _ (omega arith) c.dist-d.ensures c.abs-a.ensures c.if-a-eps.false (sym c.is_finite.ensures ∙ c.if-not-is_finite.true))
+    (project_lost _ _ _ (9 - c.loop-i._i) _ _ _ _ (omega arith) c.dist-d.ensures c.abs-a.ensures c.if-a-eps.false (sym c.is_finite.ensures ∙ c.if-not-is_finite.true))
 
 pub returns-then-a-diag : goal.returns-then-a-diag
 returns-then-a-diag c =
     rw c.loop-i.invariant.1
-    (project_far _ _ _ (9 - c.loop-i.i) _ _ _ _ (omega arith) c.dist-d.ensures c.abs-a.ensures c.if-a-eps.false (sym c.is_finite.ensures ∙ c.if-not-is_finite.false) c.if-a-diag.true)
+    (project_far _ _ _ (9 - c.loop-i._i) _ _ _ _ (omega arith) c.dist-d.ensures c.abs-a.ensures c.if-a-eps.false (sym c.is_finite.ensures ∙ c.if-not-is_finite.false) c.if-a-diag.true)
 
 pub loop-i-preserved : goal.loop-i-preserved
 loop-i-preserved c = (
   omega arith,
   rw c.loop-i.invariant.1
-      (project_on _ _ _ (10 - (c.loop-i.i + 1)) _ _ _ _ (omega arith) c.dist-d.ensures c.abs-a.ensures c.if-a-eps.false (sym c.is_finite.ensures ∙ c.if-not-is_finite.false) c.if-a-diag.false _ c.moved-q.ensures),
+      (project_on _ _ _ (10 - (c.loop-i._i + 1)) _ _ _ _ (omega arith) c.dist-d.ensures c.abs-a.ensures c.if-a-eps.false (sym c.is_finite.ensures ∙ c.if-not-is_finite.false) c.if-a-diag.false _ c.moved-q.ensures),
 )
 
 pub returns : goal.returns
 returns c =
-    let e : 10 - c.loop-i.i ≡ 0 = omega arith in
+    let e : 10 - c.loop-i._i ≡ 0 = omega arith in
     rw (c.loop-i.invariant.1, e) (project_end _ _ _ _)

@@ -1,7 +1,8 @@
 -- `float::bits::of_bits` meets its contract. The test is whether the pattern is a NaN's. Assumes nothing.
 use Rattle.std.proofs.Common.{◌∙◌}
 use lib.Bits.{and_mask}
-use Rattle.float.proofs.Nans.{is_nan_lem, is_number}
+use Rattle.std.proofs.lemmas.Float.{not_nan_f32_bits}
+use Rattle.float.proofs.Nans.{is_nan_lem}
 use Rattle.float.proofs.bits.of_bits.Goals as goal
 
 pub returns-then-w-gt2139095040 : goal.returns-then-w-gt2139095040
@@ -10,4 +11,4 @@ returns-then-w-gt2139095040 c =
 
 pub float_from_bits-result : goal.float_from_bits-result
 float_from_bits-result c =
-    let w = c.args.w in is_number w (rw (and_mask w 31) at c.if-w-gt2139095040.false)
+    let w = c.args.w in not_nan_f32_bits w (rw (and_mask w 31) at c.if-w-gt2139095040.false)

@@ -1,9 +1,8 @@
--- `float::sign::is_finite` meets its contract. 1 / 0 is the positive infinity. Assumes nothing.
-use lib.Ieee.{of_bits, neg, div}
-use Rattle.float.proofs.Signs.{finite_test}
+-- `float::is_finite` meets its contract. It is the library's. Assumes nothing.
+use Rattle.std.proofs.Common.{◌∙◌}
+use Rattle.float.proofs.Signs.{finite_is}
 use Rattle.float.proofs.sign.is_finite.Goals as goal
 
 pub returns : goal.returns
-unfolding of_bits neg div
 returns c =
-    finite_test c.args.x
+    c.is_finite.ensures.value ∙ finite_is c.args.x

@@ -1,9 +1,9 @@
--- `float::sign::nan` meets its contract. 0 / 0 is NaN. Assumes nothing.
+-- `float::sign::nan` meets its contract. The constant's pattern is a NaN's. Assumes nothing.
 use Rattle.std.proofs.Common.{refl}
-use lib.Ieee.{of_bits, div}
+use lib.Ieee.{of_bits}
 use Rattle.float.proofs.sign.nan.Goals as goal
 
 pub returns : goal.returns
-unfolding of_bits div
+unfolding of_bits
 returns c =
     refl

@@ -1,22 +1,17 @@
--- `formfactor::building::put_links` meets its contract. The loop has copied the first j links. Assumes nothing.
-use mathlib.Core.Path.{◌≡◌, refl}
+-- `formfactor::building::put_links` meets its contract. The part of each slice that is written over is as long as what is copied. Assumes nothing.
 use native.Mathlib.Omega.{arith}
-use lib.Ieee.{nan}
-use lib.ListN.{length-set}
-use Rattle.vector.proofs.Stored.{take_stored}
-use borrow.Author.Rules.{rules}
+use lib.Seq.{length-take-le}
+use Rattle.vector.proofs.Stored.{sets_part}
 use Rattle.formfactor.proofs.building.put_links.Goals as goal
 
-pub loop-j-init : goal.loop-j-init
-loop-j-init c =
-    (search rules, refl, refl, refl, refl)
-
-pub loop-j-preserved : goal.loop-j-preserved
-loop-j-preserved c =
+pub returns-clause-link_cluster_after : goal.returns-clause-link_cluster_after
+returns-clause-link_cluster_after c =
     let a = c.args in
-    (search rules, take_stored a.link_cluster.now a.link.now a.at c.loop-j.j 0 (omega (arith, c.requires)) c.loop-j.invariant.1 refl refl, take_stored a.link_weight.now a.weight.now a.at c.loop-j.j nan (omega (arith, c.requires)) c.loop-j.invariant.2 refl refl, simp length-set c.loop-j.invariant.3, simp length-set c.loop-j.invariant.4)
+    let r = c.requires in
+    rw c.copy_from_slice.ensures.after (sets_part a.link_cluster.now _ a.at _ (omega (arith, length-take-le a.k a.link.now r.k_in_bounds)) (omega (arith, r.k_in_bounds_3)))
 
-pub returns : goal.returns
-returns c =
-    let e : c.loop-j.j ≡ c.args.k = omega arith in
-    record { link_cluster_after = rw e at c.loop-j.invariant.1; link_weight_after = rw e at c.loop-j.invariant.2 }
+pub returns-clause-link_weight_after : goal.returns-clause-link_weight_after
+returns-clause-link_weight_after c =
+    let a = c.args in
+    let r = c.requires in
+    rw c.copy_from_slice-2.ensures.after (sets_part a.link_weight.now _ a.at _ (omega (arith, length-take-le a.k a.weight.now r.k_in_bounds_2)) (omega (arith, r.k_in_bounds_4)))

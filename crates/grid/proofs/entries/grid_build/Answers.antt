@@ -1,25 +1,22 @@
 -- `grid::entries::grid_build` meets its contract. A call that is not refused was lent what `build` needs. Assumes nothing.
-use borrow.Author.Tests.{ne_eqb}
-use mathlib.Core.Path.{◌∙◌, sym}
+use mathlib.Core.Path.{sym, ◌∙◌}
+use Rattle.std.proofs.lemmas.Result.{err_from_is_err_and}
 use Rattle.grid.specs.Answers.{grid_build_answer}
 use Rattle.grid.proofs.Built.{build_lent}
-use Rattle.grid.proofs.Numbered.{dims_bounded}
 use Rattle.grid.proofs.entries.grid_build.Goals as goal
+
+pub returns-in_err-check_build : goal.returns-in_err-check_build
+unfolding grid_build_answer
+returns-in_err-check_build c =
+    let p = err_from_is_err_and c.from_residual.result c.from_residual.ensures.1 in
+    rw (p.1, p.2, ← c.check_build.ensures, c.in_err-check_build.was)
 
 pub build-requires : goal.build-requires
 build-requires c =
     let a = c.args in
-    record {
-      bounded = rw c.dims_of-dim.ensures (dims_bounded _ _ _);
-      held = rw c.dims_of-dim.ensures (build_lent _ _ a.lo a.hi a.cell a.starts.now a.items.now (sym c.build_refusal-number.ensures ∙ c.if-number-eq0.true));
-    }
+    rw c.frame-frame.ensures.dims (build_lent _ _ a.space.lo a.space.hi a.space.cell a.starts.now a.items.now (sym c.check_build.ensures ∙ c.in_ok-check_build.was))
 
-pub returns-then-number-eq0 : goal.returns-then-number-eq0
+pub returns : goal.returns
 unfolding grid_build_answer
-returns-then-number-eq0 c =
-    rw (← c.build_refusal-number.ensures, c.if-number-eq0.true, c.build.ensures.starts_after, c.build.ensures.after, c.dims_of-dim.ensures)
-
-pub returns-else-number-eq0 : goal.returns-else-number-eq0
-unfolding grid_build_answer
-returns-else-number-eq0 c =
-    rw (← c.build_refusal-number.ensures, ne_eqb _ 0 c.if-number-eq0.false)
+returns c =
+    rw (← c.check_build.ensures, c.in_ok-check_build.was, c.build.ensures.starts_after, c.build.ensures.after, c.frame-frame.ensures.corner, c.frame-frame.ensures.inverse, c.frame-frame.ensures.dims)

@@ -1,50 +1,41 @@
--- `grid::entries::near` meets its contract. Each way out is a case of the definition; the block's numbers are those visited. Assumes nothing.
+-- `grid::entries::near` meets its contract. Each way out is a case of the definition; the rows' numbers are those visited. Assumes nothing.
 use mathlib.Core.Path.{sym, ◌∙◌}
-use native.Mathlib.Omega.{arith}
-use Rattle.grid.specs.Lent.{grid_of}
-use Rattle.grid.proofs.Answered.{near_refused, near_short, near_done, walked}
+use lib.ListN.{length}
+use Rattle.std.proofs.lemmas.Result.{err_from_is_err_and}
+use Rattle.grid.specs.Rows.{rows_near}
+use Rattle.grid.proofs.Answered.{near_refused, near_short, near_done, near_fits}
+use Rattle.grid.proofs.Nearby.{visited_rows}
+use Rattle.grid.proofs.Walked.{count_short, count_done}
 use Rattle.grid.proofs.entries.near.Goals as goal
 
-pub returns-then-number-ne0 : goal.returns-then-number-ne0
-returns-then-number-ne0 c =
+pub returns-in_err-check : goal.returns-in_err-check
+returns-in_err-check c =
     let a = c.args in
-    let g = grid_of a.n a.starts.now a.items.now a.lo a.hi a.cell in
-    let e = rw (c.point.ensures, c.at_most-ranged.ensures) at c.refusal-number.ensures in
-    rw e (near_refused g a.p a.reach a.list.now (λ z. c.if-number-ne0.true (e ∙ z)))
+    let e = rw (c.point.ensures, c.at_most.ensures) at c.check.ensures in
+    let p = err_from_is_err_and c.from_residual.result c.from_residual.ensures.1 in
+    rw (p.1, p.2) (near_refused a.grid.now a.p a.reach a.list.now (sym e ∙ c.in_err-check.was))
 
-pub count_block-count-requires : goal.count_block-count-requires
-count_block-count-requires c =
+pub invariant_of-fitted : goal.invariant_of-fitted
+invariant_of-fitted c =
     let a = c.args in
-    let g = grid_of a.n a.starts.now a.items.now a.lo a.hi a.cell in
-    let e = rw (c.point.ensures, c.at_most-ranged.ensures) at c.refusal-number.ensures in
-    let w = walked g a.p a.reach a.list.now (sym e ∙ c.if-number-ne0.false) in
-    record { rows_held = rw c.block_near-b.ensures w.0; small = rw c.block_near-b.ensures w.1 }
+    let e = rw (c.point.ensures, c.at_most.ensures) at c.check.ensures in
+    near_fits a.grid.now a.p a.reach a.list.now (sym e ∙ c.in_ok-check.was)
 
-pub returns-then-list-count : goal.returns-then-list-count
-returns-then-list-count c =
+pub returns-in_err-count : goal.returns-in_err-count
+returns-in_err-count c =
     let a = c.args in
-    let g = grid_of a.n a.starts.now a.items.now a.lo a.hi a.cell in
-    let e = rw (c.point.ensures, c.at_most-ranged.ensures) at c.refusal-number.ensures in
-    let z = sym e ∙ c.if-number-ne0.false in
-    let w = walked g a.p a.reach a.list.now z in
-    let count = rw (c.block_near-b.ensures, ← w.2) at c.count_block-count.ensures in
-    near_short g a.p a.reach a.list.now z (omega (arith, count, c.if-list-count.true))
-
-pub list_block-requires : goal.list_block-requires
-list_block-requires c =
-    let a = c.args in
-    let g = grid_of a.n a.starts.now a.items.now a.lo a.hi a.cell in
-    let e = rw (c.point.ensures, c.at_most-ranged.ensures) at c.refusal-number.ensures in
-    let w = walked g a.p a.reach a.list.now (sym e ∙ c.if-number-ne0.false) in
-    record { rows_held = rw c.block_near-b.ensures w.0; b_in_bounds = omega (arith, c.count_block-count.ensures, c.if-list-count.false) }
+    let e = rw (c.point.ensures, c.at_most.ensures) at c.check.ensures in
+    let z = sym e ∙ c.in_ok-check.was in
+    let v = visited_rows a.grid.now a.p a.reach (near_fits a.grid.now a.p a.reach a.list.now z) in
+    let s = count_short (rows_near a.grid.now a.p a.reach) (length a.list.now) (sym (rw c.rows_near.ensures at c.count_numbers.ensures) ∙ c.in_err-count.was) in
+    let p = err_from_is_err_and c.from_residual-in_err-count.result c.from_residual-in_err-count.ensures.1 in
+    rw (p.1, p.2, s.0) (near_short a.grid.now a.p a.reach a.list.now z (rw v s.1))
 
 pub returns : goal.returns
 returns c =
     let a = c.args in
-    let g = grid_of a.n a.starts.now a.items.now a.lo a.hi a.cell in
-    let e = rw (c.point.ensures, c.at_most-ranged.ensures) at c.refusal-number.ensures in
-    let z = sym e ∙ c.if-number-ne0.false in
-    let w = walked g a.p a.reach a.list.now z in
-    let count = rw (c.block_near-b.ensures, ← w.2) at c.count_block-count.ensures in
-    let stored = rw (c.block_near-b.ensures, ← w.2) at c.list_block.ensures in
-    rw (count, stored) (near_done g a.p a.reach a.list.now z (omega (arith, count, c.if-list-count.false)))
+    let e = rw (c.point.ensures, c.at_most.ensures) at c.check.ensures in
+    let z = sym e ∙ c.in_ok-check.was in
+    let v = visited_rows a.grid.now a.p a.reach (near_fits a.grid.now a.p a.reach a.list.now z) in
+    let s = count_done (rows_near a.grid.now a.p a.reach) (length a.list.now) (sym (rw c.rows_near.ensures at c.count_numbers.ensures) ∙ c.in_ok-count.was) in
+    rw (s.0, c.list_numbers.ensures, c.rows_near-2.ensures, ← v) (near_done a.grid.now a.p a.reach a.list.now z (rw v s.1))

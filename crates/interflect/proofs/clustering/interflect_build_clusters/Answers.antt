@@ -1,8 +1,8 @@
 -- `interflect::clustering::interflect_build_clusters` meets its contract. It tells what the entry answers, and each slice keeps its length. Assumes nothing.
-use Rattle.outs.specs.Rows.{clusters_left}
+use Rattle.outs.specs.Outs.{left}
 use Rattle.interflect.proofs.Told.{told_with}
 use Rattle.interflect.proofs.clustering.interflect_build_clusters.Goals as goal
 
 pub returns : goal.returns
 returns c =
-    record { members_value = told_with clusters_left c.tell_clustered.ensures c.build_clusters-answer.ensures.members_value; kept_from = c.build_clusters-answer.ensures.kept_from; kept_from_2 = c.build_clusters-answer.ensures.kept_from_2 }
+    record { members_value = told_with left c.tell_clustered.ensures c.build_clusters-answer.ensures.columns_value; kept_from = c.build_clusters-answer.ensures.kept_from; kept_from_2 = c.build_clusters-answer.ensures.kept_from_2 }

@@ -1,8 +1,8 @@
 -- `interflect::placing::interflect_generate` meets its contract. It tells what the entry answers, and each slice keeps its length. Assumes nothing.
-use Rattle.outs.specs.Placing.{generate_left}
+use Rattle.outs.specs.Outs.{left}
 use Rattle.interflect.proofs.Told.{told_with}
 use Rattle.interflect.proofs.placing.interflect_generate.Goals as goal
 
 pub returns : goal.returns
 returns c =
-    record { rad_after = told_with generate_left c.tell_placed.ensures c.generate-answer.ensures.rad_value; kept_from = c.generate-answer.ensures.kept_from; kept_from_2 = c.generate-answer.ensures.kept_from_2 }
+    record { rad_after = told_with left c.tell_placed.ensures c.generate-answer.ensures.rad_value; kept_from = c.generate-answer.ensures.kept_from; kept_from_2 = c.generate-answer.ensures.kept_from_2 }

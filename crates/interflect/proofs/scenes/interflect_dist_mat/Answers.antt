@@ -1,8 +1,8 @@
 -- `interflect::scenes::interflect_dist_mat` meets its contract. It tells what the entry answers. Assumes nothing.
-use Rattle.outs.specs.Scenes.{dist_left}
+use Rattle.outs.specs.Outs.{left}
 use Rattle.interflect.proofs.Told.{told}
 use Rattle.interflect.proofs.scenes.interflect_dist_mat.Goals as goal
 
 pub returns : goal.returns
 returns c =
-    told dist_left c.tell_nearest.ensures c.dist_mat-answer.ensures
+    told left c.tell_nearest.ensures c.dist_mat-answer.ensures

@@ -1,8 +1,8 @@
 -- `interflect::scenes::interflect_hemisphere_closure` meets its contract. It tells what the entry answers. Assumes nothing.
-use Rattle.outs.specs.Scenes.{closure_left}
+use Rattle.outs.specs.Outs.{left}
 use Rattle.interflect.proofs.Told.{told}
 use Rattle.interflect.proofs.scenes.interflect_hemisphere_closure.Goals as goal
 
 pub returns : goal.returns
 returns c =
-    told closure_left c.tell_closure.ensures c.hemisphere_closure-answer.ensures
+    told left c.tell_closure.ensures c.hemisphere_closure-answer.ensures

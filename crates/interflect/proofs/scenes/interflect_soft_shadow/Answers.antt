@@ -1,8 +1,8 @@
 -- `interflect::scenes::interflect_soft_shadow` meets its contract. It tells what the entry answers. Assumes nothing.
-use Rattle.outs.specs.Scenes.{shadow_left}
+use Rattle.outs.specs.Outs.{left}
 use Rattle.interflect.proofs.Told.{told}
 use Rattle.interflect.proofs.scenes.interflect_soft_shadow.Goals as goal
 
 pub returns : goal.returns
 returns c =
-    told shadow_left c.tell_shadow.ensures c.soft_shadow-answer.ensures
+    told left c.tell_shadow.ensures c.soft_shadow-answer.ensures

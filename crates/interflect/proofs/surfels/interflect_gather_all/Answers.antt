@@ -3,4 +3,4 @@ use Rattle.interflect.proofs.surfels.interflect_gather_all.Goals as goal
 
 pub returns : goal.returns
 returns c =
-    rw (c.readings_number.ensures, ← c.gather_all-answer.ensures)
+    rw (c.refusal_number.ensures, ← c.gather_all-answer.ensures)

@@ -1,8 +1,8 @@
 -- `interflect::surfels::interflect_grid_build` meets its contract. It tells what the entry answers, and each slice keeps its length. Assumes nothing.
-use Rattle.outs.specs.Surfels.{grid_left}
+use Rattle.outs.specs.Outs.{left}
 use Rattle.interflect.proofs.Told.{told_with_two}
 use Rattle.interflect.proofs.surfels.interflect_grid_build.Goals as goal
 
 pub returns : goal.returns
 returns c =
-    told_with_two grid_left c.tell_dims.ensures c.grid_build-answer.ensures
+    told_with_two left c.tell_dims.ensures c.grid_build-answer.ensures

@@ -1,8 +1,8 @@
 -- `interflect::surfels::interflect_near` meets its contract. It tells what the entry answers, and each slice keeps its length. Assumes nothing.
-use Rattle.outs.specs.Surfels.{near_left}
+use Rattle.outs.specs.Outs.{left}
 use Rattle.interflect.proofs.Told.{told_with}
 use Rattle.interflect.proofs.surfels.interflect_near.Goals as goal
 
 pub returns : goal.returns
 returns c =
-    told_with near_left c.tell_listed.ensures c.near-answer.ensures
+    told_with left c.tell_listed.ensures c.near-answer.ensures

@@ -2,13 +2,17 @@
 use mathlib.Core.Path.{sym}
 use Rattle.vector.proofs.Stored.{sets_own}
 use Rattle.links.specs.Scaling.{scale_to, calibrated, calibrated_sum}
+use Rattle.links.proofs.Scaled.{scaled_front}
 use Rattle.links.proofs.scaling.calibrate.Goals as goal
 
 pub returns-then-sum : goal.returns-then-sum
 unfolding scale_to calibrated calibrated_sum
 returns-then-sum c =
     let t = c.if-sum.true in
-    record { value = rw (t, c.min-scale.ensures); weight_after = rw (t, sym c.min-scale.ensures) c.rescale.ensures }
+    record {
+      value = rw (t, c.min-scale.ensures);
+      weight_after = rw (t, sym c.min-scale.ensures, c.rescale.ensures, c.min-end.ensures) (scaled_front _ c.args.weight.now c.args.k);
+    }
 
 pub returns-else-sum : goal.returns-else-sum
 unfolding calibrated calibrated_sum

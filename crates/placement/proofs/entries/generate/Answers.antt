@@ -1,84 +1,50 @@
 -- `placement::entries::generate` meets its contract. A call that is not refused was lent what `place` and `store` ask. Assumes nothing.
-use mathlib.Core.Path.{refl, sym, ◌∙◌}
+use mathlib.Core.Path.{sym}
 use lib.ListN.{length}
-use Rattle.tables.specs.Tables.{scene_of}
-use Rattle.placement.specs.Lent.{request_of, columns_of}
-use Rattle.placement.proofs.Answered.{accepted, number_is, answer_refused, head_open_done, next_open_done, need_is, held, roomy_left, answer_stored}
+use Rattle.std.proofs.lemmas.Result.{err_from_is_err_and}
+use Rattle.placement.specs.Lent.{columns_of}
+use Rattle.placement.proofs.Answered.{accepted, answer_refused, open_done, need_is, held, roomy_left, answer_stored}
 use Rattle.placement.proofs.entries.generate.Goals as goal
 
-pub returns-then-number-ne0 : goal.returns-then-number-ne0
-returns-then-number-ne0 c =
+pub returns-in_err-check-clause-rad_value : goal.returns-in_err-check-clause-rad_value
+returns-in_err-check-clause-rad_value c =
     let a = c.args in
-    let o = request_of (scene_of a.prims a.planes a.objects a.kinds.now a.lengths.now a.plane_parts.now a.object_parts.now) a.mats a.materials.now a.lo a.hi a.target in
     let l = columns_of a.p.now a.n.now a.albedo.now a.area.now a.direct.now a.irr.now a.rad.now in
-    let number = number_is o l (length a.head.now) (length a.next.now) c.columns_hold-columns.ensures c.refusal-number.ensures in
-    record { rad_value = answer_refused o l (length a.head.now) (length a.next.now) number c.if-number-ne0.true; kept_from = refl; kept_from_2 = refl }
+    let p = err_from_is_err_and c.from_residual.result c.from_residual.ensures.1 in
+    rw (p.1, p.2) (answer_refused a.request.now l (length a.head.now) (length a.next.now) (sym c.in_err-check.ensures))
 
-pub spacing_for-s-requires : goal.spacing_for-s-requires
-spacing_for-s-requires c =
+pub spacing-s-requires : goal.spacing-s-requires
+spacing-s-requires c =
     let a = c.args in
-    let o = request_of (scene_of a.prims a.planes a.objects a.kinds.now a.lengths.now a.plane_parts.now a.object_parts.now) a.mats a.materials.now a.lo a.hi a.target in
     let l = columns_of a.p.now a.n.now a.albedo.now a.area.now a.direct.now a.irr.now a.rad.now in
-    let number = number_is o l (length a.head.now) (length a.next.now) c.columns_hold-columns.ensures c.refusal-number.ensures in
-    (accepted o l (length a.head.now) (length a.next.now) (sym number ∙ c.if-number-ne0.false)).few
+    (accepted a.request.now l (length a.head.now) (length a.next.now) (sym c.in_ok-check.ensures)).few
 
 pub place-count-requires : goal.place-count-requires
 place-count-requires c =
     let a = c.args in
-    let o = request_of (scene_of a.prims a.planes a.objects a.kinds.now a.lengths.now a.plane_parts.now a.object_parts.now) a.mats a.materials.now a.lo a.hi a.target in
     let l = columns_of a.p.now a.n.now a.albedo.now a.area.now a.direct.now a.irr.now a.rad.now in
-    let number = number_is o l (length a.head.now) (length a.next.now) c.columns_hold-columns.ensures c.refusal-number.ensures in
-    held o l c.spacing_for-s.ensures a.head.now a.next.now (sym number ∙ c.if-number-ne0.false)
+    held a.request.now l c.spacing-s.ensures a.head.now a.next.now (sym c.in_ok-check.ensures)
 
 pub store-requires : goal.store-requires
 store-requires c =
     let a = c.args in
-    let o = request_of (scene_of a.prims a.planes a.objects a.kinds.now a.lengths.now a.plane_parts.now a.object_parts.now) a.mats a.materials.now a.lo a.hi a.target in
     let l = columns_of a.p.now a.n.now a.albedo.now a.area.now a.direct.now a.irr.now a.rad.now in
-    let number = number_is o l (length a.head.now) (length a.next.now) c.columns_hold-columns.ensures c.refusal-number.ensures in
-    roomy_left o l c.spacing_for-s.ensures c.place-count.ensures.p_after (accepted o l (length a.head.now) (length a.next.now) (sym number ∙ c.if-number-ne0.false)).roomy
+    roomy_left a.request.now l c.spacing-s.ensures c.place-count.ensures.p_after (accepted a.request.now l (length a.head.now) (length a.next.now) (sym c.in_ok-check.ensures)).roomy
 
-pub shape_of-p : goal.shape_of-p
-shape_of-p c =
-    c.place-count.auto.p
-
-pub shape_of-n : goal.shape_of-n
-shape_of-n c =
-    c.store.auto.n
-
-pub shape_of-albedo : goal.shape_of-albedo
-shape_of-albedo c =
-    c.store.auto.albedo
-
-pub shape_of-area : goal.shape_of-area
-shape_of-area c =
-    c.store.auto.area
-
-pub shape_of-direct : goal.shape_of-direct
-shape_of-direct c =
-    c.store.auto.direct
-
-pub shape_of-irr : goal.shape_of-irr
-shape_of-irr c =
-    c.store.auto.irr
-
-pub shape_of-rad : goal.shape_of-rad
-shape_of-rad c =
-    c.store.auto.rad
-
-pub shape_of-head : goal.shape_of-head
-shape_of-head c =
-    c.place-count.auto.head
-
-pub shape_of-next : goal.shape_of-next
-shape_of-next c =
-    c.place-count.auto.next
-
-pub returns : goal.returns
-returns c =
+pub returns-clause-rad_value : goal.returns-clause-rad_value
+returns-clause-rad_value c =
     let a = c.args in
-    let o = request_of (scene_of a.prims a.planes a.objects a.kinds.now a.lengths.now a.plane_parts.now a.object_parts.now) a.mats a.materials.now a.lo a.hi a.target in
     let l = columns_of a.p.now a.n.now a.albedo.now a.area.now a.direct.now a.irr.now a.rad.now in
-    let number = number_is o l (length a.head.now) (length a.next.now) c.columns_hold-columns.ensures c.refusal-number.ensures in
-    let z = c.if-number-ne0.false in
-    record { rad_value = answer_stored o l c.spacing_for-s.ensures c.place-count.ensures.p_after (length a.head.now) (length a.next.now) number z c.store.ensures; kept_from = rw (head_open_done o l (length a.head.now) (length a.next.now) number z, ← need_is o l c.spacing_for-s.ensures) c.place-count.ensures.kept_from; kept_from_2 = rw (next_open_done o l (length a.head.now) (length a.next.now) number z) c.place-count.ensures.kept_from_2 }
+    answer_stored a.request.now l c.spacing-s.ensures c.place-count.ensures.p_after (length a.head.now) (length a.next.now) (sym c.in_ok-check.ensures) c.store.ensures
+
+pub returns-clause-kept_from : goal.returns-clause-kept_from
+returns-clause-kept_from c =
+    let a = c.args in
+    let l = columns_of a.p.now a.n.now a.albedo.now a.area.now a.direct.now a.irr.now a.rad.now in
+    rw ((open_done a.request.now l (length a.head.now) (length a.next.now) (sym c.in_ok-check.ensures)).0, ← need_is a.request.now l c.spacing-s.ensures) c.place-count.ensures.kept_from
+
+pub returns-clause-kept_from_2 : goal.returns-clause-kept_from_2
+returns-clause-kept_from_2 c =
+    let a = c.args in
+    let l = columns_of a.p.now a.n.now a.albedo.now a.area.now a.direct.now a.irr.now a.rad.now in
+    rw (open_done a.request.now l (length a.head.now) (length a.next.now) (sym c.in_ok-check.ensures)).1 c.place-count.ensures.kept_from_2

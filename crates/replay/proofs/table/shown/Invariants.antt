@@ -1,9 +1,6 @@
--- `replay::table::shown` is safe and ends. At most sixteen words are read, each at a place that the table has. Assumes nothing.
-use Prim.Native.Nat.{◌-◌, ◌≤◌}
+-- `replay::table::shown` meets its contract. Assumes nothing.
+use Rattle.std.proofs.Common.{◌≡◌, map, take}
 use Rattle.replay.proofs.table.shown.Given as goal
 
-abbrev pub invariant-loop-i : goal.invariant-loop-i
-invariant-loop-i l = l.i ≤ 16
-
-abbrev pub decreases-loop-i : goal.decreases-loop-i
-decreases-loop-i l = 16 - l.i
+abbrev pub invariant-loop-x : goal.invariant-loop-x
+invariant-loop-x g l = l.words ≡ map g.W.Word.bits (take l.x-index l.x-items)

@@ -1,14 +1,13 @@
 -- `report::writing::put_probes` meets its contract. After i turns the first i lines are stored, of at most 64 bytes each. Assumes nothing.
 use mathlib.Core.Path.{◌≡◌, refl, ap, ◌∙◌}
 use native.Mathlib.Omega.{arith}
-use lib.Dec.{eqb}
 use lib.ListN.{length}
 use lib.Seq.{length-sets}
 use borrow.Author.Rules.{rules}
-use Rattle.vector.specs.Flat.{vec_at, rows}
-use Rattle.accept.specs.Tables.{number_at}
+use Rattle.vector.specs.Flat.{rows}
 use Rattle.lines.specs.Lines.{line_of}
 use Rattle.lines.proofs.Widths.{probe_short}
+use Rattle.report.specs.Needs.{seen_in}
 use Rattle.report.proofs.Texts.{line_at, lines_within, made_lined, probe_stored}
 use Rattle.report.proofs.writing.put_probes.Goals as goal
 
@@ -22,13 +21,13 @@ put_line-to-requires c =
     let seen = c.args.seen.now in
     let light = c.args.light.now in
     let i = c.loop-i.i in
-    let e : c.probe-line.result ≡ line_of (line_at seen light i) = rw c.at.ensures at c.probe-line.ensures in
-    record { at_bound = omega (arith, c.loop-i.invariant.2, lines_within seen light i); lined = made_lined (line_at seen light i) (probe_short i (eqb (number_at seen i) 1) (vec_at light i)) e }
+    let e : c.probe-line.result ≡ line_of (line_at seen light i) = rw c.seen_in.ensures at c.probe-line.ensures in
+    record { at_bound = omega (arith, c.loop-i.invariant.2, lines_within seen light i); lined = made_lined (line_at seen light i) (probe_short i (seen_in seen light i)) e }
 
 pub loop-i-preserved : goal.loop-i-preserved
 loop-i-preserved c =
     let seen = c.args.seen.now in let light = c.args.light.now in let i = c.loop-i.i in
-    let e : c.probe-line.result ≡ line_of (line_at seen light i) = rw c.at.ensures at c.probe-line.ensures in
+    let e : c.probe-line.result ≡ line_of (line_at seen light i) = rw c.seen_in.ensures at c.probe-line.ensures in
     let m = probe_stored seen light i c.args.text.now c.args.at e c.loop-i.invariant.1 c.loop-i.invariant.2 c.put_line-to.ensures.text_after c.put_line-to.ensures.value in
     (search rules, m.0, m.1)
 

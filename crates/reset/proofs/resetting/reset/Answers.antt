@@ -1,21 +1,23 @@
 -- `reset::resetting::reset` meets its contract. A call that is not refused stores the light in lists of its length. Assumes nothing.
 use mathlib.Core.Path.{sym, ◌∙◌}
-use native.Mathlib.Omega.{arith}
-use borrow.Author.Tests.{ne_eqb}
+use Rattle.std.proofs.lemmas.Result.{err_from_is_err_and}
 use Rattle.reset.specs.Resetting.{reset_answer}
-use Rattle.reset.proofs.Stored.{reset_lengths, reset_done}
+use Rattle.reset.proofs.Stored.{reset_lengths}
 use Rattle.reset.proofs.resetting.reset.Goals as goal
 
-pub store-requires : goal.store-requires
-store-requires c =
-    let w = reset_lengths _ _ _ _ (sym c.refusal-number.ensures ∙ c.if-number-eq0.true) in
-    record { light_in_bounds = omega (arith, w.0); light_in_bounds_2 = omega (arith, w.1); light_in_bounds_3 = omega (arith, w.2) }
-
-pub returns-then-number-eq0 : goal.returns-then-number-eq0
-returns-then-number-eq0 c =
-    reset_done _ _ _ _ (sym c.refusal-number.ensures ∙ c.if-number-eq0.true) c.store.ensures.direct_after c.store.ensures.irr_after c.store.ensures.rad_after
-
-pub returns-else-number-eq0 : goal.returns-else-number-eq0
+pub returns-in_err-check : goal.returns-in_err-check
 unfolding reset_answer
-returns-else-number-eq0 c =
-    rw (← c.refusal-number.ensures, ne_eqb _ 0 c.if-number-eq0.false)
+returns-in_err-check c =
+    let p = err_from_is_err_and c.from_residual.result c.from_residual.ensures.1 in
+    rw (p.1, p.2, sym c.check.ensures ∙ c.in_err-check.was)
+
+pub copy_from_slice-requires : goal.copy_from_slice-requires
+copy_from_slice-requires c = (reset_lengths _ _ _ _ (sym c.check.ensures ∙ c.in_ok-check.was)).0
+
+pub copy_from_slice-requires-2 : goal.copy_from_slice-requires-2
+copy_from_slice-requires-2 c = (reset_lengths _ _ _ _ (sym c.check.ensures ∙ c.in_ok-check.was)).2
+
+pub returns : goal.returns
+unfolding reset_answer
+returns c =
+    rw (sym c.check.ensures ∙ c.in_ok-check.was, c.copy_from_slice.ensures.after, c.copy_from_slice-2.ensures.after, c.fill.ensures.after (λ y e. e))

@@ -14,12 +14,7 @@ loop-m-init c =
 pub returns-then-h-tolerance : goal.returns-then-h-tolerance
 returns-then-h-tolerance c =
     rw (c.hit.ensures, c.loop-m.invariant.1)
-    (trace_hit _ _ _ _ (127 - c.loop-m.m.steps) _ _ _ _ _ _ (omega arith) c.along-p.ensures c.dist_mat-h.ensures c.tolerance.ensures _ refl c.if-h-tolerance.true)
-
-pub loop-m-smaller : goal.loop-m-smaller
-loop-m-smaller c =
-    let e : c.ahead-m.result.steps ≡ c.loop-m.m.steps + 1 = ap (λ m. m.steps) c.ahead-m.ensures in
-    omega arith
+    (trace_hit _ _ _ _ (127 - c.loop-m.m.steps) _ _ _ _ _ _ (omega arith) c.at-p.ensures c.dist_mat-h.ensures c.tolerance.ensures _ refl c.if-h-tolerance.true)
 
 pub loop-m-preserved : goal.loop-m-preserved
 loop-m-preserved c =
@@ -27,7 +22,7 @@ loop-m-preserved c =
     let e : c.ahead-m.result.steps ≡ c.loop-m.m.steps + 1 = ap (λ m. m.steps) w in (
       omega arith,
       rw c.loop-m.invariant.1
-          (trace_on _ _ _ _ (128 - c.ahead-m.result.steps) _ _ _ _ _ _ (omega arith) c.along-p.ensures c.dist_mat-h.ensures c.tolerance.ensures _ _ (ap (λ m. m.t) w) e c.if-h-tolerance.false c.if-m-tmax.false),
+          (trace_on _ _ _ _ (128 - c.ahead-m.result.steps) _ _ _ _ _ _ (omega arith) c.at-p.ensures c.dist_mat-h.ensures c.tolerance.ensures _ _ (ap (λ m. m.t) w) e c.if-h-tolerance.false c.if-m-ray.false),
     )
 
 pub returns-after-loop-m : goal.returns-after-loop-m
@@ -35,8 +30,8 @@ returns-after-loop-m c =
     let e : 128 - c.loop-m.m.steps ≡ 0 = omega arith in
     rw (c.loop-m.invariant.1, e) (trace_end _ _ _ _ _ _)
 
-pub returns-then-m-tmax : goal.returns-then-m-tmax
-returns-then-m-tmax c =
+pub returns-then-m-ray : goal.returns-then-m-ray
+returns-then-m-ray c =
     let w = c.ahead-m.ensures in
     rw c.loop-m.invariant.1
-    (trace_past _ _ _ _ (127 - c.loop-m.m.steps) _ _ _ _ _ _ (omega arith) c.along-p.ensures c.dist_mat-h.ensures c.tolerance.ensures _ _ (ap (λ m. m.t) w) (ap (λ m. m.steps) w) c.if-h-tolerance.false c.if-m-tmax.true)
+    (trace_past _ _ _ _ (127 - c.loop-m.m.steps) _ _ _ _ _ _ (omega arith) c.at-p.ensures c.dist_mat-h.ensures c.tolerance.ensures _ _ (ap (λ m. m.t) w) (ap (λ m. m.steps) w) c.if-h-tolerance.false c.if-m-ray.true)

@@ -1,6 +1,6 @@
 -- `subnormal::arithmetic::quotient` meets its contract. Assumes nothing.
 use mathlib.Core.Bool.{and-eq-true_iff}
-use Rattle.std.proofs.lemmas.Float.{T_from_true}
+use Rattle.std.proofs.lemmas.Float.{T_from_true, not_nan_f32_bits}
 use mathlib.Core.Path.{◌≡◌, refl, sym, ap, ◌∙◌, subst}
 use mathlib.Core.Bool.{Bool, true, false, ◌||◌, true≢false}
 use Prim.Native.Nat.{ℕ, ◌+◌, ◌-◌, ◌*◌, ◌%◌, ◌^◌, ◌≤◌, ◌<◌, max}
@@ -12,7 +12,6 @@ use borrow.Author.Tests.{ltb-false}
 use lib.Ieee.{Float, binary32, size, lt, fits, of_bits, to_bits}
 use lib.Ieee.Bits.{to_bits-lt}
 use Rattle.float.specs.Arithmetic.{0f, ◌/f◌}
-use Rattle.float.proofs.Nans.{is_number}
 use Rattle.subnormal.specs.Parts.{significand_of, exponent_of}
 use Rattle.subnormal.specs.Packing.{halves, pattern}
 use Rattle.subnormal.proofs.Apart.{Parts, parts_of, from, significand_lt, zeros_ge}
@@ -120,7 +119,7 @@ packed-requires-clause-bound c =
 
 pub float_from_bits-result : goal.float_from_bits-result
 float_from_bits-result c =
-    is_number c.packed.result (let h = c.packed.ensures.upper_bound in omega arith)
+    not_nan_f32_bits c.packed.result (let h = c.packed.ensures.upper_bound in omega arith)
 
 pub returns : goal.returns
 returns c =

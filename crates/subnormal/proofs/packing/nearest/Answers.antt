@@ -37,32 +37,32 @@ module _ (k j : ℕ) (some : 0 < k) (is : j ≡ min k 63) where
 
 pub overflow_sub-half : goal.overflow_sub-half
 overflow_sub-half c =
-    j_pos _ _ c.requires.k_nonzero c.at_most_63-j.ensures
+    j_pos _ _ c.requires.k_nonzero c.min-j.ensures
 
 pub overflow_shl-half : goal.overflow_shl-half
 overflow_shl-half c =
-    omega (arith, j-le _ _ c.requires.k_nonzero c.at_most_63-j.ensures)
+    omega (arith, j-le _ _ c.requires.k_nonzero c.min-j.ensures)
 
 pub overflow_sub-result : goal.overflow_sub-result
 overflow_sub-result c =
-    omega (arith, half _ _ c.requires.k_nonzero c.at_most_63-j.ensures, half_pos _ _ c.requires.k_nonzero c.at_most_63-j.ensures)
+    omega (arith, half _ _ c.requires.k_nonzero c.min-j.ensures, half_pos _ _ c.requires.k_nonzero c.min-j.ensures)
 
 pub overflow_add-result : goal.overflow_add-result
 overflow_add-result c =
-    omega (arith, half _ _ c.requires.k_nonzero c.at_most_63-j.ensures, half_le _ _ c.requires.k_nonzero c.at_most_63-j.ensures)
+    omega (arith, half _ _ c.requires.k_nonzero c.min-j.ensures, half_le _ _ c.requires.k_nonzero c.min-j.ensures)
 
 pub overflow_shr-result : goal.overflow_shr-result
 overflow_shr-result c =
-    omega (arith, j-le _ _ c.requires.k_nonzero c.at_most_63-j.ensures)
+    omega (arith, j-le _ _ c.requires.k_nonzero c.min-j.ensures)
 
 pub overflow_add-result-2 : goal.overflow_add-result-2
 overflow_add-result-2 c =
-    omega (arith, and_le_r (c.args.p / 2 ^ c.at_most_63-j.result) 1, half _ _ c.requires.k_nonzero c.at_most_63-j.ensures, half_le _ _ c.requires.k_nonzero c.at_most_63-j.ensures)
+    omega (arith, and_le_r (c.args.p / 2 ^ c.min-j.result) 1, half _ _ c.requires.k_nonzero c.min-j.ensures, half_le _ _ c.requires.k_nonzero c.min-j.ensures)
 
 pub overflow_shr-result-2 : goal.overflow_shr-result-2
 overflow_shr-result-2 c =
-    omega (arith, j-le _ _ c.requires.k_nonzero c.at_most_63-j.ensures)
+    omega (arith, j-le _ _ c.requires.k_nonzero c.min-j.ensures)
 
 pub returns : goal.returns
 returns c =
-    rounded _ _ c.requires.k_nonzero c.at_most_63-j.ensures _ c.requires.p_bound
+    rounded _ _ c.requires.k_nonzero c.min-j.ensures _ c.requires.p_bound

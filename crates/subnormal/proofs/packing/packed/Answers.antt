@@ -14,8 +14,8 @@ short : (p : ℕ) → p < 2 ^ 50 → size p ≤ 50
 short p l = size-le p 50 l
 
 -- what the two calls gave, in p and t
-beyond-is : (c : goal.After-less-beyond) → c.less-beyond.result ≡ beyond c.args.p c.args.t
-beyond-is c = c.less-beyond.ensures ∙ ap (λ (i : ℕ). i + 40 - c.args.t) c.digits.ensures
+beyond-is : (c : goal.After-saturating_sub-beyond) → c.saturating_sub-beyond.result ≡ beyond c.args.p c.args.t
+beyond-is c = c.saturating_sub-beyond.ensures ∙ ap (λ (i : ℕ). i + 40 - c.args.t) c.digits.ensures
 
 kept_is : (c : goal.After-nearest-kept) → c.nearest-kept.result ≡ closest c.args.p (2 ^ dropped c.args.p c.args.t)
 kept_is c =
@@ -24,7 +24,7 @@ kept_is c =
 kept-few : (c : goal.After-nearest-kept) → c.nearest-kept.result ≤ 2 ^ 24
 kept-few c = subst (λ (i : ℕ). i ≤ 2 ^ 24) (sym (kept_is c)) (kept-le c.args.p c.args.t c.requires.bound)
 
-beyond-few : (c : goal.After-less-beyond) → c.less-beyond.result ≤ 90
+beyond-few : (c : goal.After-saturating_sub-beyond) → c.saturating_sub-beyond.result ≤ 90
 beyond-few c = let h = short c.args.p c.requires.p_bound in let e = beyond-is c in omega arith
 
 pub overflow_add-digits : goal.overflow_add-digits
@@ -56,7 +56,7 @@ returns c =
     let few = kept-few c in
     let less = beyond-few c.before in
     record {
-      value = ap (λ (i : ℕ). i + c.nearest-kept.result) (mod-eq_of_lt (small c.less-beyond.result less))
+      value = ap (λ (i : ℕ). i + c.nearest-kept.result) (mod-eq_of_lt (small c.saturating_sub-beyond.result less))
           ∙ ap (λ (i : ℕ). i * 2 ^ 23 + c.nearest-kept.result) (beyond-is c.before)
           ∙ ap (λ (i : ℕ). beyond c.args.p c.args.t * 2 ^ 23 + i) (kept_is c);
       upper_bound = omega arith;

@@ -1,18 +1,35 @@
--- `surfel::gathering::read` meets its contract. What is visited are the numbers of the block's rows. Assumes nothing.
-use Rattle.grid.specs.Lent.{grid_of}
-use Rattle.grid.proofs.Nearby.{rows_held, visited_rows}
+-- `surfel::gathering::read` meets its contract. What is visited are the numbers of the rows, and they name surfels. Assumes nothing.
+use mathlib.Core.Path.{refl}
+use Rattle.std.specs.List.{concat}
+use Rattle.grid.proofs.Nearby.{visited_rows}
 use Rattle.surfel.specs.Gathering.{gather}
+use Rattle.surfel.specs.Needs.{Named}
+use Rattle.surfel.proofs.Acceptance.{visited_named}
+use Rattle.surfel.proofs.Summed.{weigh_row, all_split}
 use Rattle.surfel.proofs.gathering.read.Goals as goal
 
-pub weigh_block-requires : goal.weigh_block-requires
-weigh_block-requires c =
+pub loop-row-init : goal.loop-row-init
+loop-row-init c =
     let a = c.args in
-    let g = grid_of a.n a.starts.now a.items.now a.lo a.hi a.cell in
-    record { rows_held = rw c.block_near-b.ensures (rows_held g a.at 1 c.requires.fits); listed = c.requires.listed }
+    let v = visited_rows a.grid.now a.at 1 c.requires.fits in
+    rw (c.into_iter-row-iterator.ensures.into_iter_gives, c.rows_near-row-items.ensures, c.nothing-sum.ensures, ← v) (refl, visited_named a.grid.now a.surfels.now a.at 1 c.requires)
+
+pub weigh_row-sum-requires : goal.weigh_row-sum-requires
+weigh_row-sum-requires c =
+    let v = rw c.in-Some.ensures.steps at c.loop-row.invariant in
+    (all_split (Named c.args.surfels.now) c.in-Some.row.now (concat c.next.new.self) v.1).0
+
+pub loop-row-preserved : goal.loop-row-preserved
+loop-row-preserved c =
+    let v = rw c.in-Some.ensures.steps at c.loop-row.invariant in
+    let row = c.in-Some.row.now in
+    let rest = concat c.next.new.self in (
+      weigh_row c.args.surfels.now _ row rest c.loop-row.sum v.0 c.weigh_row-sum.ensures,
+      (all_split (Named c.args.surfels.now) row rest v.1).1,
+    )
 
 pub returns : goal.returns
 unfolding gather
 returns c =
-    let a = c.args in
-    let g = grid_of a.n a.starts.now a.items.now a.lo a.hi a.cell in
-    rw (c.reading.ensures, c.weigh_block.ensures, c.block_near-b.ensures, visited_rows g a.at 1 c.requires.fits)
+    let v = rw c.in-None.ensures.steps.0 at c.loop-row.invariant in
+    rw (c.reading.ensures, v.0)

@@ -1,26 +1,23 @@
--- `text::put` meets its contract. What is stored so far, with the stores that are left, is what all of them make. Assumes nothing.
+-- `text::put` meets its contract. The bytes that are copied are those that fit, and the stores past the end are none. Assumes nothing.
 use mathlib.Core.Path.{◌≡◌, refl, sym, ◌∙◌}
-use native.Mathlib.Numerals.{add-one}
-use lib.ListN.{length, drop, length-set}
-use lib.Seq.{drop-cons, drop-length}
-use borrow.Author.Rules.{rules}
+use Prim.Native.Nat.{◌+◌, ◌-◌}
 use native.Mathlib.Omega.{arith}
-use Rattle.text.proofs.Stores.{sets_out}
+use lib.ListN.{length, take, length-take}
+use lib.Seq.{sets-eq, take-length}
+use Rattle.std.proofs.lemmas.Slice.{put_mid-paste}
+use Rattle.text.proofs.Stores.{sets_out, sets_cut}
 use Rattle.text.proofs.line.put.Goals as goal
 
-pub loop-i-init : goal.loop-i-init
-loop-i-init c =
-    (search rules, refl, refl)
+pub returns-then-at-out : goal.returns-then-at-out
+returns-then-at-out c =
+    let out = c.args.out.now in
+    let n = c.min-n.result in
+    let part = take n c.args.s.now in
+    let l : length part ≡ n = simp length-take (omega (arith, c.min-n.ensures)) in
+    put_mid-paste c.args.at (c.args.at + n - c.args.at) out c.copy_from_slice.new.self part (length part) c.copy_from_slice.ensures.after (omega arith) refl
+    ∙ rw take-length (sym (sets-eq part out c.args.at (omega (arith, c.min-n.ensures))))
+    ∙ sets_cut out c.args.at n c.args.s.now (λ h. omega (arith, c.min-n.ensures))
 
-pub returns-then-out-to : goal.returns-then-out-to
-returns-then-out-to c =
-    sym (sets_out _ _ (drop c.loop-i.i c.args.s.now) c.if-out-to.true) ∙ c.loop-i.invariant.2
-
-pub loop-i-preserved : goal.loop-i-preserved
-loop-i-preserved c =
-    (search rules, simp length-set c.loop-i.invariant.1, rw (add-one c.loop-i.to, add-one c.loop-i.i) (rw (drop-cons c.args.s.now c.loop-i.i 0 (search rules)) at c.loop-i.invariant.2))
-
-pub returns : goal.returns
-returns c =
-    let e : c.loop-i.i ≡ length c.args.s.now = omega arith in
-    rw (e, drop-length) at c.loop-i.invariant.2
+pub returns-else-at-out : goal.returns-else-at-out
+returns-else-at-out c =
+    sym (sets_out c.args.out.now c.args.at c.args.s.now c.if-at-out.false)

@@ -1,4 +1,5 @@
 -- `text::number::glyph` meets its contract. The code's test is the definition's. Assumes nothing.
+use native.Mathlib.Omega.{arith}
 use borrow.Author.Tests.{lt-ltb, le-ltb}
 use Rattle.text.proofs.number.glyph.Goals as goal
 
@@ -8,4 +9,4 @@ returns-then-d-lt10 c =
 
 pub returns-else-d-lt10 : goal.returns-else-d-lt10
 returns-else-d-lt10 c =
-    rw (le-ltb _ _ c.if-d-lt10.false)
+    rw (le-ltb _ _ c.if-d-lt10.false) (omega arith)

@@ -8,6 +8,3 @@ use Rattle.text.proofs.number.spell.Given as goal
 
 abbrev pub invariant-loop-i : goal.invariant-loop-i
 invariant-loop-i l = (l.i ≤ l.k) × (length l.out ≡ length l.initial.out) × (last_digits l.base l.i l.rest ++ drop l.i l.out ≡ last_digits l.base l.k l.n ++ drop l.k l.initial.out)
-
-abbrev pub decreases-loop-i : goal.decreases-loop-i
-decreases-loop-i l = l.i

@@ -1,0 +1,42 @@
+// A stored scene and what is stored beside it lent to a call for placement, of each table as much as
+// is lent. What the call writes is stored.
+use crate::words;
+use placement::Request;
+use replay::{Words, lent, lent_mut, vec};
+use stored_placement::Stored;
+use tables::Scene;
+
+// The surfels: how many were placed. The call is told how many materials there are, how many surfels
+// are wanted, and the bounds.
+pub fn generate(scene: &stored::Stored, s: &mut Stored, told: [u32; 16]) -> Words {
+    let lengths = s.lent;
+    let scene = Scene {
+        prims: scene.prims,
+        planes: scene.planes,
+        objects: scene.objects,
+        kinds: lent(&scene.kinds, lengths.kinds),
+        lengths: lent(&scene.lengths, lengths.lengths),
+        plane_parts: lent(&scene.plane_parts, lengths.plane_parts),
+        object_parts: lent(&scene.object_parts, lengths.object_parts),
+    };
+    let request = Request {
+        scene,
+        mats: told[0] as usize,
+        materials: lent(&s.materials, lengths.materials),
+        lo: vec(told[2], told[3], told[4]),
+        hi: vec(told[5], told[6], told[7]),
+        target: told[1] as usize,
+    };
+    words::counted(placement::generate(
+        &request,
+        lent_mut(&mut s.columns.p, lengths.p),
+        lent_mut(&mut s.columns.n, lengths.n),
+        lent_mut(&mut s.columns.albedo, lengths.albedo),
+        lent_mut(&mut s.columns.area, lengths.area),
+        lent_mut(&mut s.light.direct, lengths.direct),
+        lent_mut(&mut s.light.irr, lengths.irr),
+        lent_mut(&mut s.light.rad, lengths.rad),
+        lent_mut(&mut s.scratch.head, lengths.head),
+        lent_mut(&mut s.scratch.next, lengths.next),
+    ))
+}

@@ -1,0 +1,7 @@
+-- `file::lying::store` meets its contract. The loop has stored the first k items. Assumes nothing.
+use mathlib.Core.Path.{◌≡◌}
+use lib.Seq.{paste}
+use Rattle.file.proofs.lying.store.Given as goal
+
+abbrev pub invariant-loop-k : goal.invariant-loop-k
+invariant-loop-k g l = l.out ≡ paste l.initial.out 0 (g.L.Listed.items l.list) l.k

@@ -1,0 +1,59 @@
+// Columns that lie in a file: what the checks of numbers and floats read, and how a column is read
+// into a slice.
+ghost use Rattle.std.specs.Prelude.{◌≡◌, ◌++◌, ◌≤◌, length, drop};
+ghost use Rattle.file.specs.Needs.{Inside};
+
+use crate::Column;
+use crate::words::word;
+use accept::Listed;
+use float::of_bits;
+
+// A column that lies in its file.
+#[derive(Clone, Copy)]
+pub(crate) struct Lying<'a> {
+    pub(crate) bytes: &'a [u8],
+    pub(crate) place: Column,
+    ghost inside: { Inside bytes.now place },
+}
+
+impl<'a> Listed<u32> for Lying<'a> {
+    ghost use Rattle.file.specs.Columns.{numbers_of};
+
+    ghost items = { λ s. numbers_of s.bytes.now s.place };
+
+    fn count(self) -> usize {
+        self.place.count
+    }
+
+    // The first word of entry k.
+    fn item(self, k: usize) -> u32 {
+        word(self.bytes, self.place.from + self.place.step * k)
+    }
+}
+
+impl<'a> Listed<f32> for Lying<'a> {
+    ghost use Rattle.file.specs.Columns.{floats_of};
+
+    ghost items = { λ s. floats_of s.bytes.now s.place };
+
+    fn count(self) -> usize {
+        self.place.width * self.place.count
+    }
+
+    // Float k, entry by entry.
+    fn item(self, k: usize) -> f32 {
+        let width = self.place.width;
+        let entry = self.place.from + self.place.step * (k / width);
+        of_bits(word(self.bytes, entry + k % width))
+    }
+}
+
+// Puts the items of a list at the front of out.
+pub(crate) fn store<T: Copy, L: Listed<T>>(list: L, out: &mut [T])
+    requires { length (L.items list) ≤ length out.old }
+    ensures { out.new ≡ L.items list ++ drop (length (L.items list)) out.old }
+{
+    for k in 0..list.count() {
+        out[k] = list.item(k);
+    }
+}

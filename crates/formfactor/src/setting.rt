@@ -1,0 +1,76 @@
+// What an accepted call makes its rows from.
+ghost use Rattle.std.specs.Prelude.{◌≡◌, ◌+◌, ◌*◌, ◌<◌, length};
+ghost use Rattle.vector.specs.Flat.{vec_at};
+ghost use Rattle.formfactor.specs.Lent.{receiver_at, cluster_at};
+ghost use Rattle.formfactor.specs.Needs.{EmittersHeld, SurfelsHeld};
+
+use crate::{Emitters, Surfels};
+use clusters::Cluster;
+use links::Receiver;
+use std::marker::Model;
+use tables::Scene;
+use vector::Vec3;
+
+// A scene, the diagonal of its bounds, and surfels and clusters whose columns hold as many as they
+// say.
+#[derive(Drop)]
+pub struct Setting<'a> {
+    pub scene: &'a Scene<'a>,
+    pub diag: f32,
+    pub surfels: &'a Surfels<'a>,
+    pub emitters: &'a Emitters<'a>,
+}
+
+impl<'a> Model for Setting<'a> {
+    ghost use Rattle.formfactor.specs.Lent.{Setting as LentSetting, setting_with};
+    ghost use Rattle.formfactor.specs.Needs.{Held};
+
+    ghost Value = { LentSetting };
+
+    ghost view = { λ t. setting_with t.scene.now t.diag t.surfels.now t.emitters.now };
+
+    ghost invariant = { λ t. Held (setting_with t.scene.now t.diag t.surfels.now t.emitters.now) };
+}
+
+impl Surfels<'_> {
+    // Surfel i.
+    pub(crate) fn receiver_at(&self, i: usize) -> Receiver
+        requires held { SurfelsHeld self.now.n self.now.p self.now.normals }
+        requires i_lt_n { i < self.now.n }
+        ensures { result ≡ receiver_at self.now.p self.now.normals i }
+    {
+        Receiver {
+            p: vec_at(self.p, i),
+            n: vec_at(self.normals, i),
+        }
+    }
+}
+
+impl Emitters<'_> {
+    // Cluster c.
+    pub(crate) fn cluster_at(&self, c: usize) -> Cluster
+        requires held { EmittersHeld self.now }
+        requires c_lt_nc { c < self.now.nc }
+        ensures { result ≡ cluster_at self.now c }
+    {
+        Cluster {
+            p: vec_at(self.p, c),
+            n: vec_at(self.n, c),
+            area: self.area[c],
+            radius: self.radius[c],
+        }
+    }
+}
+
+// Vector i of a flat slice.
+// Kept: each crate that reads so has its own, since a public one could ask nothing of its caller.
+fn vec_at(s: &[f32], i: usize) -> Vec3
+    requires { 3 * i + 2 < length s.now }
+    ensures { result ≡ vec_at s.now i }
+{
+    Vec3 {
+        x: s[3 * i],
+        y: s[3 * i + 1],
+        z: s[3 * i + 2],
+    }
+}

@@ -1,0 +1,114 @@
+// The numbers near a point, row by row: the cells of a row follow one another, so that its numbers
+// stand together in items.
+ghost use Rattle.std.specs.Prelude.{◌≡◌, ◌≤◌, length};
+ghost use Rattle.std.specs.List.{concat};
+ghost use Rattle.std.specs.Iterator.{YieldsFirstBy, item_count};
+ghost use Rattle.std.proofs.lemmas.List.Edits.{sets};
+ghost use Rattle.grid.specs.Rows.{rows_near, counted};
+
+use crate::{Block, Grid};
+use accept::{Refusal, require, wide};
+use std::marker::Model;
+use vector::Vec3;
+
+// A grid whose starts and items fit together.
+#[derive(Drop)]
+pub struct Fitted<'a> {
+    pub grid: &'a Grid<'a>,
+}
+
+impl<'a> Model for Fitted<'a> {
+    ghost use Rattle.std.specs.Prelude.{true, ◌≡◌};
+    ghost use Rattle.grid.specs.Lent.{Grid as Lent};
+    ghost use Rattle.grid.specs.Checks.{list_fits};
+
+    ghost Value = { Lent };
+
+    ghost view = { λ f. f.grid.now };
+
+    ghost invariant = { λ f. list_fits f.grid.now ≡ true };
+}
+
+impl<'a> Fitted<'a> {
+    // The rows of the cells within reach of the one that p lies in.
+    pub fn rows_near(&self, p: Vec3, reach: usize) -> Rows<'a>
+        ensures { result ≡ rows_near self.now p reach }
+    {
+        let grid = self.grid;
+        Rows {
+            starts: grid.starts,
+            items: grid.items,
+            block: grid.space.block_near(p, reach),
+            z: 0,
+            y: 0,
+        }
+    }
+}
+
+// The rows of a block that are left, layer after layer: of each the numbers of its points.
+#[derive(Drop)]
+pub struct Rows<'a> {
+    starts: &'a [u32],
+    items: &'a [u32],
+    block: Block,
+    z: usize,
+    y: usize,
+}
+
+impl<'a> Model for Rows<'a> {
+    ghost use Rattle.std.specs.Prelude.{ℕ, List};
+    ghost use Rattle.grid.specs.Rows.{rows_left, RowsLeft};
+
+    ghost Value = { List (List ℕ) };
+
+    ghost view = { λ r. rows_left r.starts.now r.items.now r.block r.z r.y };
+
+    ghost invariant = { λ r. RowsLeft r.starts.now r.items.now r.block r.y };
+}
+
+impl<'a> Iterator for Rows<'a> {
+    type Item = &'a [u32];
+
+    ghost next_gives = { YieldsFirstBy (λ row. row.now) (λ rows. rows) };
+
+    ghost remaining = { item_count (λ rows. rows) };
+
+    fn next(&mut self) -> Option<&'a [u32]> {
+        if self.z >= self.block.layers {
+            return None;
+        }
+        let c = self.block.first + self.block.layer_step * self.z + self.block.row_step * self.y;
+        let from = wide(self.starts[c]);
+        let to = wide(self.starts[c + self.block.wide]);
+        self.y += 1;
+        if self.y == self.block.rows {
+            self.y = 0;
+            self.z += 1;
+        }
+        Some(&self.items[from..to])
+    }
+}
+
+// How many numbers these rows have; refused where a list has no room for so many.
+pub fn count_numbers(rows: Rows, room: usize) -> Result<usize, Refusal>
+    ensures { result ≡ counted rows.entry room }
+{
+    let mut count = 0;
+    for row in rows {
+        require(row.len() <= room - count, Refusal::Length)?;
+        count += row.len();
+    }
+    Ok(count)
+}
+
+// The numbers of these rows, listed from the front on.
+pub fn list_numbers(rows: Rows, list: &mut [u32])
+    requires { length (concat rows) ≤ length list.old }
+    ensures { list.new ≡ sets list.old 0 (concat rows.entry) }
+{
+    let mut at = 0;
+    for row in rows {
+        list[at..at + row.len()].copy_from_slice(row);
+        at += row.len();
+    }
+}

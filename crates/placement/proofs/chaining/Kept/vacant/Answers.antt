@@ -1,0 +1,41 @@
+-- `placement::chaining::Kept::vacant` meets its contract. The search stands at a point of the cell, and what is left of its chain decides the answer. Assumes nothing.
+use mathlib.Core.Path.{sym, ap, ◌∙◌}
+use Prim.Native.Nat.{ℕ}
+use mathlib.Core.Bool.{Bool}
+use native.Mathlib.Omega.{arith}
+use Rattle.vector.specs.Flat.{vec_at}
+use Rattle.placement.specs.Kept.{closer}
+use Rattle.placement.specs.Chains.{key_of}
+use Rattle.placement.proofs.Chained.{search_begins, search_found, search_goes, search_ends}
+use Rattle.placement.proofs.chaining.Kept.vacant.Goals as goal
+
+pub loop-link-init : goal.loop-link-init
+loop-link-init c =
+    search_begins (key_of c.args.self.now.s (vec_at c.args.self.now.p.now)) (λ j. closer c.args.self.now.s c.args.at (vec_at c.args.self.now.p.now j)) c.args.c _ c.args.self.now.count c.args.self.now.chained.chained c.requires c.wide-link.ensures
+
+pub returns-then-closer : goal.returns-then-closer
+returns-then-closer c =
+    let k : ℕ → ℕ = key_of c.args.self.now.s (vec_at c.args.self.now.p.now) in
+    let t : ℕ → Bool = λ j. closer c.args.self.now.s c.args.at (vec_at c.args.self.now.p.now j) in
+    let e = sym (c.closer.ensures ∙ ap (closer c.args.self.now.s c.args.at) c.point_at.ensures) ∙ c.if-closer.true in
+    sym (search_found k t c.args.c _ c.args.self.now.count c.args.self.now.chained.chained c.loop-link.invariant c.loop-link-test.true e)
+
+pub loop-link-smaller : goal.loop-link-smaller
+loop-link-smaller c =
+    let k : ℕ → ℕ = key_of c.args.self.now.s (vec_at c.args.self.now.p.now) in
+    let t : ℕ → Bool = λ j. closer c.args.self.now.s c.args.at (vec_at c.args.self.now.p.now j) in
+    let e = sym (c.closer.ensures ∙ ap (closer c.args.self.now.s c.args.at) c.point_at.ensures) ∙ c.if-closer.false in
+    (search_goes k t c.args.c _ c.args.self.now.count c.args.self.now.chained.chained c.loop-link.invariant c.loop-link-test.true e c.wide-link-in-loop-link.ensures).1
+
+pub loop-link-preserved : goal.loop-link-preserved
+loop-link-preserved c =
+    let k : ℕ → ℕ = key_of c.args.self.now.s (vec_at c.args.self.now.p.now) in
+    let t : ℕ → Bool = λ j. closer c.args.self.now.s c.args.at (vec_at c.args.self.now.p.now j) in
+    let e = sym (c.closer.ensures ∙ ap (closer c.args.self.now.s c.args.at) c.point_at.ensures) ∙ c.if-closer.false in
+    (search_goes k t c.args.c _ c.args.self.now.count c.args.self.now.chained.chained c.loop-link.invariant c.loop-link-test.true e c.wide-link-in-loop-link.ensures).0
+
+pub returns : goal.returns
+returns c =
+    let k : ℕ → ℕ = key_of c.args.self.now.s (vec_at c.args.self.now.p.now) in
+    let t : ℕ → Bool = λ j. closer c.args.self.now.s c.args.at (vec_at c.args.self.now.p.now j) in
+    sym (search_ends k t c.args.c _ c.args.self.now.count c.args.self.now.chained.chained c.loop-link.invariant (omega (arith, c.loop-link-test.false)))

@@ -1,0 +1,26 @@
+-- Words put into a table, and shown of it. Assumes nothing.
+use Rattle.std.proofs.Common.{◌≡◌, ℕ, suc, ◌+◌, ◌-◌, ◌<◌, ◌≤◌, List, [], ◌∷◌, length, get_or, take, drop, map, min, refl, zero-add, arith}
+use Rattle.std.proofs.Common.{◌++◌, replicate}
+use Rattle.std.proofs.lemmas.List.{map-id, drop-replicate, length-replicate}
+use Rattle.std.proofs.lemmas.Grind.{common_steps}
+use Rattle.std.proofs.lemmas.List.Edits.{sets, sets-eq}
+use Rattle.std.proofs.Math.Seq.{set_out}
+use Rattle.replay.specs.Words.{with}
+
+-- nothing more is stored where no words are left, or no places
+pub sets_none : {X : Type 0} (l : List X) (i : ℕ) (xs : List X) → min (length xs) (length l - i) ≡ 0 → sets l i xs ≡ l
+sets_none l i [] h = refl
+sets_none l i (x ∷ xs) h = rw (set_out l i x (omega arith)) (sets_none l (suc i) xs (omega arith))
+
+-- words put into zeros from the first on
+pub padded : (n : ℕ) (words : List ℕ) → length words ≤ n → sets (replicate n 0) 0 (map (λ w. w) words) ≡ words ++ replicate (n - length words) 0
+padded n words h =
+    let zeros : List ℕ = replicate n 0 in
+    let fits : 0 + length words ≤ length zeros = rw length-replicate (omega arith) in
+    let e : sets zeros 0 words ≡ words ++ drop (0 + length words) zeros = sets-eq words zeros 0 fits in
+    rw (map-id words, e, zero-add (length words), drop-replicate) refl
+
+-- one more word is shown
+pub shown_next : {X : Type 0} (f : X → ℕ) (xs : List X) (i : ℕ) (x : X) → i < length xs → length xs ≤ 16 → x ≡ get_or xs i x
+    → with (map f (take i xs)) (f x) ≡ map f (take (i + 1) xs)
+shown_next f xs i x h few e = grind (arith, common_steps)

@@ -1,0 +1,40 @@
+// Standard input replayed line by line.
+use crate::{Line, Lines, Word, shown};
+use std::io;
+use std::io::{BufWriter, Read, Write};
+
+// Of a longer input no more bytes are read.
+const MAX_TEXT: u64 = 524288;
+
+// What a program replays: it keeps what lines store, and answers those that ask.
+// Kept: a trait and no closure, since what calls a closure has a `requires`, and nothing public has one.
+pub trait Replay {
+    // Stores what the line says, or prints its answer.
+    fn line(&mut self, out: &mut impl Write, line: &Line<'_>) -> io::Result<()>;
+}
+
+// Stores or answers each line of standard input.
+pub fn run(rt: &(impl Input + Print + Alloc), replayed: &mut impl Replay) -> io::Result<()> {
+    let mut text = Vec::new(rt.alloc());
+    rt.reader().take(MAX_TEXT).read_to_end(&mut text)?;
+    let mut out = BufWriter::new(rt.alloc(), io::writer(rt))?;
+    for line in Lines(&text) {
+        replayed.line(&mut out, &Line::of(line))?;
+    }
+    out.flush()
+}
+
+// Prints what a table holds from place `at` on, 16 words to a line; the last is the one with the last
+// place that is lent.
+pub fn print_table<W: Word>(
+    out: &mut impl Write,
+    table: &[W],
+    at: usize,
+    lent: usize,
+) -> io::Result<()> {
+    let end = lent.min(table.len());
+    for from in (at..end).step_by(16) {
+        writeln!(out, "{}", shown(table, from))?;
+    }
+    Ok(())
+}
