@@ -39,6 +39,7 @@ pub fn require(passed: bool, refusal: Refusal) -> Result<(), Refusal>
 }
 
 // The number of what refuses a call, 0 where nothing does.
+// Kept: a number, since C is told so, and 0 is none of a `Refusal`.
 pub fn refusal_number(checked: Result<(), Refusal>) -> u32
     ensures { result ≡ refusal_number checked }
 {

@@ -1,9 +1,9 @@
 // The stored grid, its surfels and its probes lent to a question, of each table as much as is lent. What
 // a call writes is stored.
 use crate::words;
-use grid::{Grid, Space};
-use replay::{Words, lent, lent_mut};
-use stored_grid::{Bounds, Stored};
+use grid::Grid;
+use replay::{Words, counted, lent, lent_mut};
+use stored_grid::Stored;
 use surfel::{Probes, Surfels};
 use vector::Vec3;
 
@@ -12,7 +12,7 @@ pub fn grid_build(s: &mut Stored, n: usize) -> Words {
     words::built(grid::grid_build(
         n,
         lent(&s.p, s.lent.p),
-        space(s.bounds),
+        s.space,
         lent_mut(&mut s.starts, s.lent.starts),
         lent_mut(&mut s.items, s.lent.items),
     ))
@@ -24,9 +24,9 @@ pub fn near(s: &mut Stored, n: usize, p: Vec3, reach: usize) -> Words {
         n,
         starts: lent(&s.starts, s.lent.starts),
         items: lent(&s.items, s.lent.items),
-        space: space(s.bounds),
+        space: s.space,
     };
-    words::listed(grid::near(&grid, p, reach, lent_mut(&mut s.list, s.lent.list)))
+    counted(grid::near(&grid, p, reach, lent_mut(&mut s.list, s.lent.list)))
 }
 
 // The light at a point with this normal.
@@ -35,7 +35,7 @@ pub fn gather(s: &Stored, n: usize, at: Vec3, normal: Vec3, radius: f32) -> Word
         n,
         starts: lent(&s.starts, s.lent.starts),
         items: lent(&s.items, s.lent.items),
-        space: space(s.bounds),
+        space: s.space,
     };
     let surfels = Surfels {
         p: lent(&s.p, s.lent.p),
@@ -51,7 +51,7 @@ pub fn gather_all(s: &mut Stored, n: usize, probes: usize, radius: f32) -> Words
         n,
         starts: lent(&s.starts, s.lent.starts),
         items: lent(&s.items, s.lent.items),
-        space: space(s.bounds),
+        space: s.space,
     };
     let surfels = Surfels {
         p: lent(&s.p, s.lent.p),
@@ -71,13 +71,4 @@ pub fn gather_all(s: &mut Stored, n: usize, probes: usize, radius: f32) -> Words
         lent_mut(&mut s.seen, s.lent.seen),
         lent_mut(&mut s.light, s.lent.light),
     ))
-}
-
-// The stored box and the side of its cells.
-fn space(b: Bounds) -> Space {
-    Space {
-        lo: b.lo,
-        hi: b.hi,
-        cell: b.cell,
-    }
 }

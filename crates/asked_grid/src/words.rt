@@ -15,14 +15,6 @@ pub fn built(answer: Result<Dims, Refusal>) -> Words {
     }
 }
 
-// How many numbers the list has.
-pub fn listed(answer: Result<usize, Refusal>) -> Words {
-    match answer {
-        Ok(count) => refused(0).with(short(count)),
-        Err(refusal) => refused(u32::from(refusal)),
-    }
-}
-
 // 1 and the light, or 0.
 pub fn read(answer: Result<Reading, Refusal>) -> Words {
     match answer {

@@ -1,8 +1,7 @@
 // A stored scene and what is stored beside it lent to a call for placement, of each table as much as
 // is lent. What the call writes is stored.
-use crate::words;
 use placement::Request;
-use replay::{Words, lent, lent_mut, vec};
+use replay::{Words, counted, lent, lent_mut, vec};
 use stored_placement::Stored;
 use tables::Scene;
 
@@ -10,14 +9,13 @@ use tables::Scene;
 // are wanted, and the bounds.
 pub fn generate(scene: &stored::Stored, s: &mut Stored, told: [u32; 16]) -> Words {
     let lengths = s.lent;
+    let all = scene.scene();
     let scene = Scene {
-        prims: scene.prims,
-        planes: scene.planes,
-        objects: scene.objects,
-        kinds: lent(&scene.kinds, lengths.kinds),
-        lengths: lent(&scene.lengths, lengths.lengths),
-        plane_parts: lent(&scene.plane_parts, lengths.plane_parts),
-        object_parts: lent(&scene.object_parts, lengths.object_parts),
+        kinds: lent(all.kinds, lengths.kinds),
+        lengths: lent(all.lengths, lengths.lengths),
+        plane_parts: lent(all.plane_parts, lengths.plane_parts),
+        object_parts: lent(all.object_parts, lengths.object_parts),
+        ..all
     };
     let request = Request {
         scene,
@@ -27,7 +25,7 @@ pub fn generate(scene: &stored::Stored, s: &mut Stored, told: [u32; 16]) -> Word
         hi: vec(told[5], told[6], told[7]),
         target: told[1] as usize,
     };
-    words::counted(placement::generate(
+    counted(placement::generate(
         &request,
         lent_mut(&mut s.columns.p, lengths.p),
         lent_mut(&mut s.columns.n, lengths.n),

@@ -2,6 +2,5 @@
 #![tactic(auto)]
 
 mod ask;
-mod words;
 
 pub use ask::generate;

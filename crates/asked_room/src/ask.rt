@@ -49,15 +49,10 @@ pub fn reset(s: &mut Stored, lengths: Lengths) -> Words {
 // The reset of the first four surfels' light, as records, to the first floats of the stored light, so
 // many.
 pub fn reset_records(s: &mut Stored, length: usize) -> Words {
-    let given = [
-        record_of(s, 0),
-        record_of(s, 1),
-        record_of(s, 2),
-        record_of(s, 3),
-    ];
+    let given = std::array::from_fn(|i| record_of(s, i));
     let four = lent_records::reset_four(lent(&s.light, length), given);
-    for i in 0..4 {
-        put_record(s, i, four.records[i]);
+    for (i, record) in four.records.into_iter().enumerate() {
+        put_record(s, i, record);
     }
     words::reset(four.answer)
 }

@@ -4,21 +4,11 @@ use crate::words;
 use formfactor::{Emitters, Surfels};
 use replay::{Words, lent, lent_mut, vec};
 use stored_rows::Stored;
-use tables::Scene;
 
 // The rows: how many links, the mean row sum and the evaluations. The call is told how many surfels and
 // clusters there are, and the bounds.
 pub fn rows(scene: &stored::Stored, s: &mut Stored, told: [u32; 16]) -> Words {
     let lengths = s.rows_lent;
-    let scene = Scene {
-        prims: scene.prims,
-        planes: scene.planes,
-        objects: scene.objects,
-        kinds: &scene.kinds,
-        lengths: &scene.lengths,
-        plane_parts: &scene.plane_parts,
-        object_parts: &scene.object_parts,
-    };
     let surfels = Surfels {
         n: told[0] as usize,
         p: lent(&s.surfels.p, lengths.p),
@@ -32,7 +22,7 @@ pub fn rows(scene: &stored::Stored, s: &mut Stored, told: [u32; 16]) -> Words {
         radius: lent(&s.clusters.radius, lengths.radius),
     };
     words::built(formfactor::build(
-        &scene,
+        &scene.scene(),
         vec(told[2], told[3], told[4]),
         vec(told[5], told[6], told[7]),
         &surfels,

@@ -35,7 +35,8 @@ pub fn group(
     let mut at = 0;
     let mut k = 0;
     let mut w = 0;
-    // Kept: a turn ends where a run of equal keys does, which no range of numbers gives.
+    // Kept: a turn ends where a run of equal keys does; the library's `chunk_by` compares neighbours, so that
+    // it would make each key twice.
     while at < n {
         let end = run_end(d, order, at);
         let run = &order[at..end];

@@ -79,6 +79,7 @@ pub fn surfel_key(d: &Divided, i: usize) -> usize
 }
 
 // The vector number i of a flat slice.
+// Kept: `vector::at` would test each place, and a loop over surfels indexes without tests.
 pub fn vector_at(s: &[f32], i: usize) -> Vec3
     requires { 3 * i + 2 < length s.now }
     ensures { result ≡ vec_at s.now i }

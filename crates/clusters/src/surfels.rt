@@ -8,6 +8,7 @@ use std::marker::Model;
 
 // Surfels that are lent: how many, where they are, their normals and their areas. The columns may
 // hold more than n.
+// Kept: a count stands beside the slices, since C lends both and a slice may be longer or shorter.
 #[derive(Drop)]
 pub struct Surfels<'a> {
     pub n: usize,

@@ -1,6 +1,6 @@
 // The largest target of placement, and one more.
 use placement::Request;
-use replay::{Words, refused, short};
+use replay::{Words, counted};
 use std::io;
 use tables::Scene;
 use vector::Vec3;
@@ -49,8 +49,5 @@ fn target_of(target: usize) -> Words {
         &mut [],
         &mut [],
     );
-    match answer {
-        Ok(count) => refused(0).with(short(count)),
-        Err(refusal) => refused(u32::from(refusal)),
-    }
+    counted(answer)
 }

@@ -13,11 +13,12 @@ use borrow.Author.Tests.{leb-true, lt-leb, le-leb}
 use Rattle.float.specs.Column.{float_at}
 use Rattle.vector.specs.Flat.{rows, replaced}
 use Rattle.vector.proofs.Replaced.{length_rows, row_written, at_filled}
-use Rattle.accept.specs.Every.{conj}
+use Rattle.accept.specs.Every.{every, conj}
 use Rattle.accept.specs.Limits.{max_file}
+use Rattle.accept.specs.Ranges.{within, all_within, floats_within}
 use Rattle.accept.specs.Tables.{number_at, holds}
 use Rattle.accept.proofs.Bounded.{le_holds}
-use Rattle.accept.proofs.Every.{conj_each}
+use Rattle.accept.proofs.Every.{every_same, every_product, conj_each}
 use Rattle.file.specs.declared.Column.{Column}
 use Rattle.file.specs.declared.Counts.{Counts}
 use Rattle.file.specs.Words.{words, word_in, float_in}
@@ -148,6 +149,20 @@ module _ (b : List ℕ) (col : Column) where
         count_few = n.count_few;
         each = λ i k. let m = next_entry col.step i col.count k in omega arith;
       }
+
+-- ---- tests of all floats of a column, entry by entry
+
+-- the floats of a column are in their range where those of each entry are
+pub column_within : (b : List ℕ) (col : Column) (lo hi : Float)
+    → floats_within (floats_of b col) col.count col.width lo hi ≡ every (λ i. all_within (λ j. float_in b (entry_from col i + j)) col.width lo hi) col.count
+unfolding all_within
+column_within b col lo hi =
+    let l = floats_of b col in
+    let n = floats_length b col in
+    let m = mul_comm col.width col.count in
+    rw (le_holds (length l) col.count col.width (omega arith))
+    (every_product (λ k. within (float_at l k) lo hi) col.count col.width
+    ∙ every_same _ _ col.count (λ i h. every_same _ _ col.width (λ j k. rw (float_at_lem b col i j h k))))
 
 -- ---- a column that was read
 

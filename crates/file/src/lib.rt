@@ -46,6 +46,7 @@ pub struct Counts {
 
 // What stands before the probes: the box of the grid, the side of a cell, and the radius of a
 // reading.
+// Kept: four fields and no `Space`, since the file has them so, and C is told them in this order.
 #[derive(Clone, Copy)]
 pub struct ProbeBox {
     pub lo: Vec3,

@@ -8,6 +8,7 @@ ghost use Rattle.float.specs.RootSteps.{Between, Scaled, Rounded};
 use crate::sign;
 
 // The square root: the float nearest the exact root, ties to even. -0 gives -0, a number below 0 NaN.
+// Kept: not the library's, since document 01 has the root over scaled whole numbers.
 pub fn sqrt(x: f32) -> f32
     ensures value { result ≡ square_root x }
     ensures nearest { T (Positive·positive x) → NearestRoot x result }
@@ -62,6 +63,7 @@ fn fraction(q: u64) -> u32
 }
 
 // The whole-number root of n, bit by bit: r has its upper bits, and `left` bits are left to find.
+// Kept: not the library's `isqrt`, since document 01 has the root by recursion on the bits that are left.
 fn whole_root(n: u64, r: u64, left: u32) -> u64
     requires { Between n r left }
     ensures { Root n result }

@@ -14,8 +14,8 @@ use vector::Vec3;
 // links from starts[i] up to starts[i + 1]. A row whose links do not fit the shorter of the two link
 // slices, of which at most 16,777,216 places are used, is answered with its number, after the rows
 // before it. Scratch holds one row at a time.
-// Kept: the slices that are written are no struct, since of a struct of them each contract would say
-// besides that it still holds the same ones.
+// Kept: what is written are slices one by one, here and in what is called, since a struct of slices that
+// are written would be taken apart and put together again at each call, as `clusters::Columns` is.
 pub fn build(
     scene: &Scene,
     lo: Vec3,

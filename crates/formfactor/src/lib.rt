@@ -20,6 +20,7 @@ pub use entries::build;
 use std::marker::Model;
 
 // The surfels that rows are made of, so many, by their places and normals: three floats each.
+// Kept: a count stands beside the slices, since C lends both and a slice may be longer or shorter.
 #[derive(Drop)]
 pub struct Surfels<'a> {
     pub n: usize,
@@ -35,6 +36,7 @@ impl<'a> Model for Surfels<'a> {
 
 // The clusters that light them, so many: their places and normals, three floats each, their areas and
 // their radii.
+// Kept: a count stands beside the slices, since C lends both and a slice may be longer or shorter.
 #[derive(Drop)]
 pub struct Emitters<'a> {
     pub nc: usize,

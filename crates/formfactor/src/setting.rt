@@ -1,6 +1,5 @@
 // What an accepted call makes its rows from.
 ghost use Rattle.std.specs.Prelude.{◌≡◌, ◌+◌, ◌*◌, ◌<◌, length};
-ghost use Rattle.vector.specs.Flat.{vec_at};
 ghost use Rattle.formfactor.specs.Lent.{receiver_at, cluster_at};
 ghost use Rattle.formfactor.specs.Needs.{EmittersHeld, SurfelsHeld};
 
@@ -40,8 +39,8 @@ impl Surfels<'_> {
         ensures { result ≡ receiver_at self.now.p self.now.normals i }
     {
         Receiver {
-            p: vec_at(self.p, i),
-            n: vec_at(self.normals, i),
+            p: vector::at(self.p, i),
+            n: vector::at(self.normals, i),
         }
     }
 }
@@ -54,23 +53,10 @@ impl Emitters<'_> {
         ensures { result ≡ cluster_at self.now c }
     {
         Cluster {
-            p: vec_at(self.p, c),
-            n: vec_at(self.n, c),
+            p: vector::at(self.p, c),
+            n: vector::at(self.n, c),
             area: self.area[c],
             radius: self.radius[c],
         }
-    }
-}
-
-// Vector i of a flat slice.
-// Kept: each crate that reads so has its own, since a public one could ask nothing of its caller.
-fn vec_at(s: &[f32], i: usize) -> Vec3
-    requires { 3 * i + 2 < length s.now }
-    ensures { result ≡ vec_at s.now i }
-{
-    Vec3 {
-        x: s[3 * i],
-        y: s[3 * i + 1],
-        z: s[3 * i + 2],
     }
 }

@@ -112,6 +112,12 @@ module _ (g : Grid) (p : Vec3) (reach : ℕ) (h : list_fits g ≡ true) where
         ends = λ j k a b. rw (first_row g.lo g.hi g.side p reach j k) (omega (arith, ends j k a b, items_fit.0));
       }
 
+  -- each row ends among the first n items
+  pub rows_within : (j k : ℕ) → j < (block_near g.lo g.hi g.side p reach).rows → k < (block_near g.lo g.hi g.side p reach).layers
+      → row_to g.starts (block_near g.lo g.hi g.side p reach) j k ≤ g.n
+  unfolding block_near
+  rows_within j k a b = rw (first_row g.lo g.hi g.side p reach j k) (ends j k a b)
+
   -- so that one can go over them
   pub rows_begin : RowsLeft g.starts g.items (block_near g.lo g.hi g.side p reach) 0
   unfolding block_near

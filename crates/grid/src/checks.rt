@@ -9,6 +9,7 @@ use accept::{
 };
 
 // What refuses a call on this grid. The call's own tests of 2, 3, 4 and 5 are handed in.
+// Kept: flags, since the calls' tests are made between the grid's, in the order of the numbers.
 #[tactic(auto, unfolding(crate::specs::Checks::check, crate::specs::Checks::tables_hold, crate::specs::Checks::list_fits, accept::specs::Refusal::checked))]
 pub fn check(grid: &Grid, few: bool, ranged: bool, lent: bool, floats: bool) -> Result<(), Refusal>
     ensures { result ≡ check grid.now few ranged lent floats }

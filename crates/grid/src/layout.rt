@@ -46,7 +46,7 @@ impl Space {
 }
 
 // The cell that p lies in; a point outside the cells counts for the nearest.
-// Kept: no method of `Frame`, since it answers for any dimensions.
+// Kept: public, and for any dimensions; `Frame::cell_of` says besides that the cell is within them.
 #[tactic(auto, unfolding(crate::specs::Cells::cell_of, vector::specs::Vector::minus))]
 pub fn cell_of(p: Vec3, lo: Vec3, inv_cell: f32, dim: Dims) -> Cell
     ensures { result ≡ cell_of p lo inv_cell dim }
@@ -102,6 +102,7 @@ impl Frame {
         ensures value { result ≡ point_cell p.now self.lo self.inv_cell self.dim i }
         ensures below { result < cells self.dim }
     {
+        // Kept: `vector::at` would test each place, and a loop over points indexes without tests.
         let at = Vec3 {
             x: p[3 * i],
             y: p[3 * i + 1],

@@ -29,6 +29,7 @@ pub struct Space {
 }
 
 // A grid of n points as it is lent.
+// Kept: a count stands beside the slices, since C lends both and a slice may be longer or shorter.
 #[derive(Drop)]
 pub struct Grid<'a> {
     pub n: usize,

@@ -11,7 +11,8 @@ use accept::{Refusal, require, wide};
 use std::marker::Model;
 use vector::Vec3;
 
-// A grid whose starts and items fit together.
+// A grid whose starts and items fit together, as those do that passed `check`: whoever makes one shows
+// it.
 #[derive(Drop)]
 pub struct Fitted<'a> {
     pub grid: &'a Grid<'a>,

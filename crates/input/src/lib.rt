@@ -10,7 +10,7 @@ use std::io::Read;
 // buffer's start.
 //
 // Kept: a loop over `read`, since `read_exact` fails where the input ends first and then says nothing of
-// how many bytes came.
+// how many bytes came, and `read_to_end` needs the heap, which could fail where roomlight doesn't.
 pub fn read_full(rt: &impl Input, buf: &mut [u8]) -> io::Result<usize>
     ensures { IfOk result (λ n. n ≤ length buf.new) }
 {

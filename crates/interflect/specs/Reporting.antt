@@ -2,11 +2,11 @@
 -- then. Definitions only.
 use Rattle.std.specs.Prelude.{List, ℕ}
 use Rattle.report.specs.Report.{report_answer}
-use Rattle.outs.specs.Reporting.{report_left}
+use Rattle.outs.specs.Outs.{left}
 
 -- the entry
 abbrev pub interflect_room_report : List ℕ → ℕ → List ℕ → ℕ × ℕ × List ℕ
 interflect_room_report b held text =
     let a = report_answer b text in
-    let left = report_left a.0 held in
-    (left.0, left.1, a.1)
+    let told = left a.0 held in
+    (told.0, told.1, a.1)

@@ -79,5 +79,5 @@ pub extern "C" fn interflect_generate(
         target,
     };
     let answer = placement::generate(&request, p, n, albedo, area, direct, irr, rad, head, next);
-    outs::tell_placed(answer, count)
+    outs::tell_count(answer, count)
 }

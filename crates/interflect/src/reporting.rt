@@ -11,5 +11,5 @@ pub extern "C" fn interflect_room_report(bytes: &[u8], text: &mut [u8], length: 
         ≡ interflect_room_report bytes.now length.old text.old }
 {
     let answer = report::room_report(bytes, text);
-    outs::tell_length(answer, length)
+    outs::tell_count(answer, length)
 }

@@ -101,7 +101,7 @@ pub extern "C" fn interflect_near(
         space,
     };
     let answer = grid::near(&grid, p, reach, list);
-    outs::tell_listed(answer, count)
+    outs::tell_count(answer, count)
 }
 
 // The light at atx aty atz with the normal nx ny nz: seen becomes 1 and x y z the light, or 0 and

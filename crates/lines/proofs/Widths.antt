@@ -1,4 +1,4 @@
--- How long the lines are, and what a line holds. Assumes nothing.
+-- How long the lines are. Assumes nothing.
 use mathlib.Core.Bool.{Bool, true, false, cond}
 use mathlib.Core.List.{List, [], ◌∷◌, ◌++◌}
 use mathlib.Core.Path.{◌≡◌}
@@ -7,26 +7,15 @@ use native.Mathlib.Nat.{pow-suc}
 use native.Mathlib.Omega.{arith}
 use lib.Dec.{ltb}
 use lib.Ieee.{Float}
-use lib.ListN.{length, take, length-append, length-replicate}
-use lib.Seq.{take-append_seam}
+use lib.ListN.{length, length-append}
 use borrow.Author.Tests.{lt-ltb}
 use Rattle.text.specs.Digits.{glyph, decimal_within, decimal_digits}
 use Rattle.text.proofs.Spelling.{decimal-length}
 use Rattle.text.proofs.Laws.{length_hex}
 use Rattle.vector.specs.declared.Vec3.{Vec3}
-use Rattle.lines.specs.Lines.{settled_word, open_word, seen_word, unseen_word, counts_line, bounces_line, worded_line, probe_line, refused_line, line_of}
+use Rattle.lines.specs.Lines.{settled_word, open_word, seen_word, unseen_word, counts_line, bounces_line, worded_line, probe_line, refused_line}
 use Rattle.std.specs.Prelude.{Option, Some, None}
 use Rattle.vector.specs.Vector.{zero_vec}
-
--- a line's text
-pub line_text : (t : List ℕ) → length t ≤ 64 → take (line_of t).count (line_of t).bytes ≡ t
-unfolding line_of
-line_text t h = take-append_seam t _
-
--- a line has 64 places
-pub line_length_lem : (t : List ℕ) → length t ≤ 64 → length (line_of t).bytes ≡ 64
-unfolding line_of
-line_length_lem t h = simp (length-append, length-replicate) (omega arith)
 
 -- a number below 10 ^ j has at most j decimal digits
 pub decimal_short : (k n j : ℕ) → 1 ≤ j → n < 10 ^ j → length (decimal_within k n) ≤ j
@@ -65,7 +54,7 @@ bounces_width bounces change settled =
     simp (length-append, length_hex) (omega (arith, decimal-length 10 bounces, either_width settled settled_word open_word 8 (omega arith) (omega arith)))
 
 -- a probe's line with a word of at most 7 bytes: at most 41 bytes and the digits of the number
-pub worded_digits : (number : ℕ) (word : List ℕ) (light : Vec3) → length word ≤ 7 → length (worded_line number word light) ≤ length (decimal_digits number) + 41
+worded_digits : (number : ℕ) (word : List ℕ) (light : Vec3) → length word ≤ 7 → length (worded_line number word light) ≤ length (decimal_digits number) + 41
 unfolding worded_line
 worded_digits number word light h = simp (length-append, length_hex) (omega arith)
 

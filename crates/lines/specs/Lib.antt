@@ -1,3 +1,2 @@
 -- The definitions that the contracts of `lines` cite.
 pub mod Lines
-pub mod Needs

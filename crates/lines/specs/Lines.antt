@@ -1,11 +1,10 @@
 -- The lines that `roomlight` prints, in ASCII: document 01, 'The room file and `roomlight`'. Counts are decimal, floats eight hexadecimal digits of their bits. Definitions only.
-use Rattle.std.specs.Prelude.{Bool, cond, List, [], ◌∷◌, ◌++◌, ℕ, ◌-◌, Float, length, replicate, Option, Some, None}
+use Rattle.std.specs.Prelude.{Bool, cond, List, [], ◌∷◌, ◌++◌, ℕ, Float, Option, Some, None}
 use Rattle.std.specs.Float.{binary32}
 use Rattle.std.specs.Float.Ieee.{to_bits}
 use Rattle.text.specs.Digits.{hex_digits, decimal_digits}
 use Rattle.vector.specs.declared.Vec3.{Vec3}
 use Rattle.vector.specs.Vector.{zero_vec}
-use Rattle.lines.specs.declared.Line.{Line}
 
 -- `surfels `
 abbrev pub surfels_word : List ℕ
@@ -95,7 +94,3 @@ probe_line number None = worded_line number unseen_word zero_vec
 -- `refused 5`
 unfoldable pub refused_line : ℕ → List ℕ
 refused_line number = refused_word ++ decimal_digits number ++ newline
-
--- a text of at most 64 bytes as a line: zeros after it, and how many bytes it has
-unfoldable pub line_of : List ℕ → Line
-line_of t = record { bytes = t ++ replicate (64 - length t) 0; count = length t }

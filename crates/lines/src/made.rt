@@ -1,13 +1,14 @@
 // The four lines of a report.
 ghost use Rattle.std.specs.Prelude.{◌≡◌, ◌≤◌, length};
-ghost use Rattle.lines.specs.Lines.{counts_line, bounces_line, worded_line, probe_line, refused_line, line_of};
+ghost use Rattle.lines.specs.Lines.{counts_line, bounces_line, worded_line, probe_line, refused_line};
 
 use crate::Line;
 use vector::Vec3;
 
 // How many surfels, clusters and links a room has.
+#[tactic(auto, unfolding(crate::specs::Lines::counts_line))]
 pub fn counts(surfels: u32, clusters: u32, links: u32) -> Line
-    ensures { result ≡ line_of (counts_line surfels clusters links) }
+    ensures { result ≡ counts_line surfels clusters links }
 {
     Line::empty()
         .with(b"surfels ")
@@ -20,8 +21,9 @@ pub fn counts(surfels: u32, clusters: u32, links: u32) -> Line
 }
 
 // How many bounces a run made, its last change, and whether it is settled.
+#[tactic(auto, unfolding(crate::specs::Lines::bounces_line))]
 pub fn bounces(bounces: u32, change: f32, settled: bool) -> Line
-    ensures { result ≡ line_of (bounces_line bounces change settled) }
+    ensures { result ≡ bounces_line bounces change settled }
 {
     let start = Line::empty().with(b"bounces ").with_decimal(bounces);
     let line = start.with(b" residual ").with_float(change);
@@ -34,7 +36,7 @@ pub fn bounces(bounces: u32, change: f32, settled: bool) -> Line
 
 // The reading at a probe: its number, and the light where it is seen; zeros stand where it is not.
 pub fn probe(number: u32, seen: Option<Vec3>) -> Line
-    ensures { result ≡ line_of (probe_line number seen) }
+    ensures { result ≡ probe_line number seen }
 {
     match seen {
         Some(light) => worded(number, b" seen", light),
@@ -43,9 +45,10 @@ pub fn probe(number: u32, seen: Option<Vec3>) -> Line
 }
 
 // A probe's number, a word, and a light.
+#[tactic(auto, unfolding(crate::specs::Lines::worded_line))]
 fn worded(number: u32, word: &[u8], light: Vec3) -> Line
     requires { length word.now ≤ 7 }
-    ensures { result ≡ line_of (worded_line number word.now light) }
+    ensures { result ≡ worded_line number word.now light }
 {
     Line::empty()
         .with(b"probe ")
@@ -61,8 +64,9 @@ fn worded(number: u32, word: &[u8], light: Vec3) -> Line
 }
 
 // The number that refuses a room.
+#[tactic(auto, unfolding(crate::specs::Lines::refused_line))]
 pub fn refused(number: u32) -> Line
-    ensures { result ≡ line_of (refused_line number) }
+    ensures { result ≡ refused_line number }
 {
     Line::empty()
         .with(b"refused ")

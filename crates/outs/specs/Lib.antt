@@ -5,4 +5,3 @@ pub mod Surfels
 pub mod Rows
 pub mod Solves
 pub mod Reading
-pub mod Reporting

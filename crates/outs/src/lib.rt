@@ -5,18 +5,16 @@
 // Kept: an answer's numbers are written through a reference each, since C lends them so.
 #![tactic(auto)]
 
-mod placing;
+mod counts;
 mod reading;
-mod reporting;
 mod rows;
 mod scenes;
 mod solves;
 mod surfels;
 
-pub use placing::tell_placed;
+pub use counts::tell_count;
 pub use reading::tell_head;
-pub use reporting::tell_length;
 pub use rows::{tell_built, tell_clustered};
 pub use scenes::{tell_closure, tell_nearest, tell_normal, tell_shadow, tell_traced};
 pub use solves::tell_solved;
-pub use surfels::{tell_dims, tell_listed, tell_reading};
+pub use surfels::{tell_dims, tell_reading};

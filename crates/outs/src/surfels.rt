@@ -27,19 +27,6 @@ pub fn tell_dims(
     }
 }
 
-// The number that a near list was refused with, or 0 with how many it has written through a reference.
-pub fn tell_listed(answer: Result<usize, Refusal>, count: &mut usize) -> u32
-    ensures { (result, count.new) ≡ left answer count.old }
-{
-    match answer {
-        Ok(listed) => {
-            *count = listed;
-            0
-        }
-        Err(refusal) => u32::from(refusal),
-    }
-}
-
 // The number that a reading was refused with, or 0 with the reading written through references.
 pub fn tell_reading(
     answer: Result<Reading, Refusal>,

@@ -34,7 +34,7 @@ impl Kept<'_> {
         let mut link = wide(self.head[c]);
         while link > 0 {
             let j = link - 1;
-            if closer(self.s, at, point_at(self.p, j)) {
+            if closer(self.s, at, vector::at(self.p, j)) {
                 return false;
             }
             link = wide(self.next[j]);
@@ -49,19 +49,6 @@ fn closer(s: Spacing, p: Vec3, q: Vec3) -> bool
     ensures { result ≡ closer s p q }
 {
     q.minus(p).length_squared() < s.d_min * s.d_min
-}
-
-// The point number j of p.
-// Kept: each crate that reads so has its own, since a public one could ask nothing of its caller.
-fn point_at(p: &[f32], j: usize) -> Vec3
-    requires { 3 * j + 2 < length p.now }
-    ensures { result ≡ vec_at p.now j }
-{
-    Vec3 {
-        x: p[3 * j],
-        y: p[3 * j + 1],
-        z: p[3 * j + 2],
-    }
 }
 
 // Puts the point number `count`, which lies at `at`, into the chain of its cell.

@@ -62,6 +62,7 @@ impl Request<'_> {
 }
 
 // Whether the columns are long enough for so many surfels.
+// Kept: the slices and not their lengths, since the contract names the columns once, as the entry's does.
 #[tactic(auto, unfolding(crate::specs::Checks::columns_hold))]
 fn columns_hold(
     target: usize,

@@ -12,6 +12,7 @@ use vector::Vec3;
 impl Kept<'_> {
     // Whether none of the points is too close to `at`: the search over the cells about it ends at the
     // first that is.
+    // Kept: document 01 leaves the three loops by a labelled break.
     pub fn free(&self, at: Vec3) -> bool
         ensures { result ≡ free self.now.s (vec_at self.now.p.now) self.now.count at }
     {

@@ -12,8 +12,8 @@ use accept::Refusal;
 
 // Places surfels on the surface of a scene, as many as are asked for at most, and answers how many they
 // are. They have no light yet.
-// Kept: the columns and the scratch are no struct, since of slices that are written each contract would
-// say besides that the struct still holds the same ones.
+// Kept: the columns and the scratch are slices one by one, here and in what is called, since a struct of
+// slices that are written would be taken apart and put together again at each call, as `clusters::Columns` is.
 pub fn generate(
     request: &Request,
     p: &mut [f32],

@@ -13,4 +13,4 @@ mod words;
 pub use line::{Line, Lines};
 pub use replaying::{Replay, print_table, run};
 pub use table::{Word, lent, lent_mut, part, put, put_at, shown};
-pub use words::{Words, refused, short, vec};
+pub use words::{Words, counted, refused, short, vec};

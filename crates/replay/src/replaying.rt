@@ -1,5 +1,5 @@
 // Standard input replayed line by line.
-use crate::{Line, Lines, Word, shown};
+use crate::{Line, Lines, Word, Words, shown};
 use std::io;
 use std::io::{BufWriter, Read, Write};
 
@@ -9,8 +9,16 @@ const MAX_TEXT: u64 = 524288;
 // What a program replays: it keeps what lines store, and answers those that ask.
 // Kept: a trait and no closure, since what calls a closure has a `requires`, and nothing public has one.
 pub trait Replay {
-    // Stores what the line says, or prints its answer.
-    fn line(&mut self, out: &mut impl Write, line: &Line<'_>) -> io::Result<()>;
+    // Stores what the line says, and answers whether it says something.
+    fn store(&mut self, line: &Line<'_>) -> bool;
+
+    // The result words of the question that a line is; none where it is no question.
+    fn answer(&mut self, line: &Line<'_>) -> Words;
+
+    // Prints the answer to a line that stores nothing.
+    fn print(&mut self, out: &mut impl Write, line: &Line<'_>) -> io::Result<()> {
+        writeln!(out, "{}", self.answer(line))
+    }
 }
 
 // Stores or answers each line of standard input.
@@ -18,8 +26,11 @@ pub fn run(rt: &(impl Input + Print + Alloc), replayed: &mut impl Replay) -> io:
     let mut text = Vec::new(rt.alloc());
     rt.reader().take(MAX_TEXT).read_to_end(&mut text)?;
     let mut out = BufWriter::new(rt.alloc(), io::writer(rt))?;
-    for line in Lines(&text) {
-        replayed.line(&mut out, &Line::of(line))?;
+    for bytes in Lines(&text) {
+        let line = Line::of(bytes);
+        if !replayed.store(&line) {
+            replayed.print(&mut out, &line)?;
+        }
     }
     out.flush()
 }

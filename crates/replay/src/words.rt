@@ -3,9 +3,10 @@ ghost use Rattle.std.specs.Prelude.{◌≡◌, ◌%◌};
 ghost use Rattle.std.specs.Float.{binary32};
 ghost use Rattle.std.specs.Float.Ieee.{to_bits};
 ghost use Rattle.replay.specs.Vectors.{vector_of};
-ghost use Rattle.replay.specs.Words.{none, with as Words·with};
+ghost use Rattle.replay.specs.Words.{counted, none, with as Words·with};
 
 use crate::put_at;
+use accept::Refusal;
 use arrayvec::ArrayVec;
 use float::of_bits;
 use std::fmt;
@@ -116,6 +117,16 @@ pub fn short(x: usize) -> u32
     ensures { result ≡ x % 4294967296 }
 {
     (x % 4294967296) as u32
+}
+
+// 0 and how many were counted, or the refusal's number alone.
+pub fn counted(answer: Result<usize, Refusal>) -> Words
+    ensures { result ≡ counted answer }
+{
+    match answer {
+        Ok(count) => refused(0).with(short(count)),
+        Err(refusal) => refused(u32::from(refusal)),
+    }
 }
 
 // The vector of three words.

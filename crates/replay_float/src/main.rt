@@ -5,7 +5,7 @@
 
 mod answer;
 
-use replay::{Line, Replay};
+use replay::{Line, Replay, Words};
 use std::io;
 
 fn main(rt: HostRuntime) -> io::Result<()> {
@@ -17,7 +17,11 @@ fn main(rt: HostRuntime) -> io::Result<()> {
 struct Operations;
 
 impl Replay for Operations {
-    fn line(&mut self, out: &mut impl io::Write, line: &Line<'_>) -> io::Result<()> {
-        writeln!(out, "{}", answer::to(line))
+    fn store(&mut self, _line: &Line<'_>) -> bool {
+        false
+    }
+
+    fn answer(&mut self, line: &Line<'_>) -> Words {
+        answer::to(line)
     }
 }

@@ -24,20 +24,10 @@ struct Calls {
 }
 
 impl Replay for Calls {
-    fn line(&mut self, out: &mut impl io::Write, line: &Line<'_>) -> io::Result<()> {
-        if self.scene.store(line) || self.stored.store(line) {
-            return Ok(());
-        }
-        match line.name {
-            b"show_clusters" => show::clusters(out, &self.stored, line.given.padded()[0] as usize),
-            b"show_rows" => show::rows(out, &self.stored, line.given.padded()[0] as usize),
-            _ => writeln!(out, "{}", self.answer(line)),
-        }
+    fn store(&mut self, line: &Line<'_>) -> bool {
+        self.scene.store(line) || self.stored.store(line)
     }
-}
 
-impl Calls {
-    // The result words of the call that a line is; none where it is no call.
     fn answer(&mut self, line: &Line<'_>) -> Words {
         let told = line.given.padded();
         match (line.name, line.given.len()) {
@@ -45,6 +35,15 @@ impl Calls {
             (b"rows", 8) => asked_rows::rows(&self.scene, &mut self.stored, told),
             (b"bucket", 3) => asked_clusters::bucket(vec(told[0], told[1], told[2])),
             _ => Words::none(),
+        }
+    }
+
+    // Shows what the tables hold, or prints a call's answer.
+    fn print(&mut self, out: &mut impl io::Write, line: &Line<'_>) -> io::Result<()> {
+        match line.name {
+            b"show_clusters" => show::clusters(out, &self.stored, line.given.padded()[0] as usize),
+            b"show_rows" => show::rows(out, &self.stored, line.given.padded()[0] as usize),
+            _ => writeln!(out, "{}", self.answer(line)),
         }
     }
 }

@@ -24,25 +24,24 @@ struct Calls {
 }
 
 impl Replay for Calls {
-    fn line(&mut self, out: &mut impl io::Write, line: &Line<'_>) -> io::Result<()> {
-        if self.scene.store(line) || self.stored.store(line) {
-            return Ok(());
-        }
-        match line.name {
-            b"show" => show::tables(out, &self.stored, line),
-            _ => writeln!(out, "{}", self.answer(line)),
-        }
+    fn store(&mut self, line: &Line<'_>) -> bool {
+        self.scene.store(line) || self.stored.store(line)
     }
-}
 
-impl Calls {
-    // The result words of the call that a line is; none where it is no call.
     fn answer(&mut self, line: &Line<'_>) -> Words {
         match (line.name, line.given.len()) {
             (b"generate", 8) => {
                 asked_placement::generate(&self.scene, &mut self.stored, line.given.padded())
             }
             _ => Words::none(),
+        }
+    }
+
+    // Shows what the tables hold, or prints a call's answer.
+    fn print(&mut self, out: &mut impl io::Write, line: &Line<'_>) -> io::Result<()> {
+        match line.name {
+            b"show" => show::tables(out, &self.stored, line),
+            _ => writeln!(out, "{}", self.answer(line)),
         }
     }
 }

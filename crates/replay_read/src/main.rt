@@ -31,16 +31,7 @@ struct Readings {
 }
 
 impl Replay for Readings {
-    fn line(&mut self, out: &mut impl io::Write, line: &Line<'_>) -> io::Result<()> {
-        if self.store(line) {
-            return Ok(());
-        }
-        writeln!(out, "{}", self.answer(line))
-    }
-}
-
-impl Readings {
-    // Stores what the line says, and answers whether it says something.
+    // Words put into the file, columns marked, or how much of them is lent.
     fn store(&mut self, line: &Line<'_>) -> bool {
         let w = line.given.padded();
         match line.name {

@@ -1,5 +1,5 @@
 // Reports of the file, and what they answer.
-use replay::{Words, lent, lent_mut, refused};
+use replay::{Words, counted, lent, lent_mut, refused};
 use std::io;
 
 // Prints the report of the first so many bytes of the file, more than there are meaning all; or the
@@ -19,8 +19,5 @@ pub fn room(
 // What a report of the first so many bytes into so much of the text answers: the number that refuses
 // it, or 0 and how many bytes it has.
 pub fn short(file: &[u8], length: usize, text: &mut [u8], space: usize) -> Words {
-    match report::room_report(lent(file, length), lent_mut(text, space)) {
-        Ok(end) => refused(0).with(replay::short(end)),
-        Err(refusal) => refused(u32::from(refusal)),
-    }
+    counted(report::room_report(lent(file, length), lent_mut(text, space)))
 }

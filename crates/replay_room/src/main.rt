@@ -23,21 +23,37 @@ struct Reports {
 }
 
 impl Replay for Reports {
-    fn line(&mut self, out: &mut impl io::Write, line: &Line<'_>) -> io::Result<()> {
-        if stored_file::store(self.file.as_mut_slice(), line) {
-            return Ok(());
-        }
+    fn store(&mut self, line: &Line<'_>) -> bool {
+        stored_file::store(self.file.as_mut_slice(), line)
+    }
+
+    fn answer(&mut self, line: &Line<'_>) -> Words {
         let w = line.given.padded();
         let (length, space) = (w[0] as usize, w[1] as usize);
-        let report = self.report.as_mut_slice();
         match line.name {
-            b"room" => ask::room(out, self.file.as_slice(), length, report),
-            b"short" => writeln!(
-                out,
-                "{}",
-                ask::short(self.file.as_slice(), length, report, space)
+            b"short" => ask::short(
+                self.file.as_slice(),
+                length,
+                self.report.as_mut_slice(),
+                space,
             ),
-            _ => writeln!(out, "{}", Words::none()),
+            _ => Words::none(),
+        }
+    }
+
+    // Prints a report, or an answer.
+    fn print(&mut self, out: &mut impl io::Write, line: &Line<'_>) -> io::Result<()> {
+        match line.name {
+            b"room" => {
+                let length = line.given.padded()[0] as usize;
+                ask::room(
+                    out,
+                    self.file.as_slice(),
+                    length,
+                    self.report.as_mut_slice(),
+                )
+            }
+            _ => writeln!(out, "{}", self.answer(line)),
         }
     }
 }

@@ -5,7 +5,7 @@
 
 mod answer;
 
-use replay::{Line, Replay};
+use replay::{Line, Replay, Words};
 use std::io;
 use stored::Stored;
 
@@ -21,10 +21,11 @@ struct Questions {
 }
 
 impl Replay for Questions {
-    fn line(&mut self, out: &mut impl io::Write, line: &Line<'_>) -> io::Result<()> {
-        if self.scene.store(line) {
-            return Ok(());
-        }
-        writeln!(out, "{}", answer::to(&self.scene, line))
+    fn store(&mut self, line: &Line<'_>) -> bool {
+        self.scene.store(line)
+    }
+
+    fn answer(&mut self, line: &Line<'_>) -> Words {
+        answer::to(&self.scene, line)
     }
 }

@@ -5,7 +5,7 @@
 
 mod answer;
 
-use replay::{Line, Replay};
+use replay::{Line, Replay, Words};
 use std::io;
 use stored_room::Stored;
 
@@ -21,10 +21,11 @@ struct Questions {
 }
 
 impl Replay for Questions {
-    fn line(&mut self, out: &mut impl io::Write, line: &Line<'_>) -> io::Result<()> {
-        if self.stored.store(line) {
-            return Ok(());
-        }
-        writeln!(out, "{}", answer::to(&mut self.stored, line))
+    fn store(&mut self, line: &Line<'_>) -> bool {
+        self.stored.store(line)
+    }
+
+    fn answer(&mut self, line: &Line<'_>) -> Words {
+        answer::to(&mut self.stored, line)
     }
 }

@@ -1,5 +1,5 @@
 -- What the functions beneath the entry ask of each other. Definitions only.
-use Rattle.std.specs.Prelude.{List, ◌≡◌, ℕ, ◌+◌, ◌*◌, ◌≤◌, Float, length, take, replicate, Result, Ok, Err, cond, eqb, Option, Some, None}
+use Rattle.std.specs.Prelude.{List, ◌≡◌, ℕ, ◌+◌, ◌*◌, Float, length, replicate, Result, Ok, Err, cond, eqb, Option, Some, None}
 use Rattle.accept.specs.Tables.{number_at}
 use Rattle.vector.specs.declared.Vec3.{Vec3}
 use Rattle.vector.specs.Flat.{vec_at}
@@ -7,7 +7,6 @@ use Rattle.float.specs.Arithmetic.{0f}
 use Rattle.grid.specs.Cells.{dims_of, cells}
 use Rattle.accept.specs.declared.refusal.Refusal.{Refusal}
 use Rattle.solve.specs.declared.SolveStats.{SolveStats}
-use Rattle.lines.specs.declared.Line.{Line}
 use Rattle.file.specs.declared.Counts.{Counts}
 use Rattle.file.specs.declared.ProbeBox.{ProbeBox}
 
@@ -53,14 +52,6 @@ pub record ProbesCut (c : Counts) (p normals : List Float) (seen : List ℕ) (li
   pub normals_cut : length normals ≡ 3 * c.probes
   pub seen_cut : length seen ≡ c.probes
   pub light_cut : length light ≡ 3 * c.probes
-
--- the text of a line
-abbrev pub text_of : Line → List ℕ
-text_of l = take l.count l.bytes
-
--- a line has no more bytes than its places
-abbrev pub Lined : Line → Type 0
-Lined l = (l.count ≤ 64) × (length l.bytes ≡ 64)
 
 -- the light that is seen at probe i, by what was written of the readings
 abbrev pub seen_in : List ℕ → List Float → ℕ → Option Vec3

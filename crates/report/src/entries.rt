@@ -43,6 +43,8 @@ fn write_report(bytes: &[u8], text: &mut [u8]) -> usize
 }
 
 // Writes the lines of a file that is accepted; how many bytes they are.
+// Kept: that the file is accepted is asked here and in what is called, beside the room in what each writes
+// to; a type for the one would not spare the other.
 fn write_lines(file: &RoomFile, text: &mut [u8]) -> usize
     requires { report_check file.now ≡ Ok tt }
     ensures text_after { text.new ≡ sets text.old 0 (lines_of file.now) }

@@ -16,6 +16,7 @@ use grid::{Grid, grid_build};
 use surfel::{Probes, Surfels, gather_all};
 
 // The readings at the probes of a file that is accepted, with the irr that its solve left.
+// Kept: local arrays cut to their need, as in `solve_file`.
 #[tactic(auto, using(crate::proofs::Fitting::counts_short))]
 pub fn read_file(file: &RoomFile, irr: [f32; 16384]) -> Readings
     requires accepted { report_check file.now ≡ Ok tt }
@@ -53,6 +54,8 @@ pub fn read_file(file: &RoomFile, irr: [f32; 16384]) -> Readings
 
 // The readings in these columns, all of the length of their need, those of the grid zeros. Neither the
 // grid nor the readings are refused, since the file is accepted.
+// Kept: each column is a slice of its own, since it is written first and lent as part of a grid, surfels or
+// probes then.
 fn read_in(
     file: &RoomFile,
     irr: &[f32],

@@ -15,6 +15,7 @@ use solve::{SolveStats, solve};
 use transfer::{Clusters, Room, Rows};
 
 // The solve of the room in a file that is accepted.
+// Kept: local arrays cut to their need, since a report can't fail and so has no heap.
 #[tactic(auto, using(crate::proofs::Fitting::counts_short))]
 pub fn solve_file(file: &RoomFile) -> Solved
     requires { report_check file.now ≡ Ok tt }

@@ -5,7 +5,6 @@ ghost use Rattle.accept.specs.Limits.{max_bounces};
 ghost use Rattle.vector.specs.Flat.{rows};
 ghost use Rattle.lines.specs.Lines.{probe_line};
 ghost use Rattle.report.specs.Report.{head_lines};
-ghost use Rattle.report.specs.Needs.{Lined, text_of};
 ghost use Rattle.report.specs.Needs.{seen_in as Needs·seen_in};
 
 use file::Counts;
@@ -16,13 +15,12 @@ use vector::Vec3;
 // Puts a line from place `at` on; the place after it.
 pub fn put_line(text: &mut [u8], at: usize, line: Line) -> usize
     requires at_bound { at ≤ 1099511627776 }
-    requires lined { Lined line }
-    ensures text_after { text.new ≡ sets text.old at (text_of line) }
-    ensures value { result ≡ at + length (text_of line) }
+    ensures text_after { text.new ≡ sets text.old at line }
+    ensures value { result ≡ at + length line }
 {
-    let bytes = line.bytes;
-    text::put(text, at, &bytes[..line.count]);
-    at + line.count
+    let bytes = line.as_slice();
+    text::put(text, at, bytes);
+    at + bytes.len()
 }
 
 // Puts the lines of the counts and of a run at the front; the place after them.

@@ -37,6 +37,7 @@ pub fn check(light: &[f32], direct: usize, irr: usize, rad: usize) -> Result<(),
 }
 
 // Whether no list has more floats than the most surfels take.
+// Kept: lengths, since the reset of records has no lists to hand in.
 fn lists_within(light: usize, direct: usize, irr: usize, rad: usize) -> bool
     ensures { result ≡ lists_within light direct irr rad }
 {

@@ -10,9 +10,9 @@ use accept::limits::MAX_FILE;
 use file::RoomFile;
 
 // Reads the room that the bytes of a file hold into these columns, at the front of each, or refuses
-// the file and then writes nothing. Surfels have three floats of p, normals,
-// albedo and direct and one of area; clusters one of area and their range of members; starts has
-// one number more than surfels; links have a cluster and a weight; probes three floats of each.
+// the file and then writes nothing. Surfels have three floats of p, normals, albedo and direct and one
+// of area; clusters one of area and their range of members; starts has one number more than surfels;
+// links have a cluster and a weight; probes three floats of each.
 //
 // Kept: the columns stay fourteen slices, as C lends them, since a struct of slices that are written
 // would be taken apart and put together again at each call.

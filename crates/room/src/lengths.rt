@@ -7,6 +7,7 @@ use accept::{holds, wide};
 use file::Counts;
 
 // Whether each column holds its entries.
+// Kept: the slices and not their lengths, since the contract names the columns once, as the entry's does.
 #[tactic(auto, unfolding(crate::specs::Answers::columns_hold, crate::specs::Answers::surfels_hold, crate::specs::Answers::clusters_hold, crate::specs::Answers::rows_hold, crate::specs::Answers::probes_hold))]
 pub fn columns_hold(
     c: Counts,

@@ -18,7 +18,7 @@ pub fn trace(scene: &Scene, ray: Ray) -> Traced
         t: ray.tmin,
         steps: 0,
     };
-    // Kept: the cursor counts its samples, and marching cursors are passed on by value.
+    // Kept: document 01 has marching cursors as values, and this one counts its own samples.
     while m.steps < 128 {
         let p = ray.at(m.t);
         let h = dist_mat(scene, p);

@@ -72,6 +72,7 @@ fn ray(scene: &Scene, p: Vec3, n: Vec3, tmax: f32, k: usize) -> Traced
 
 impl Openings {
     // One ray more.
+    // Kept: document 01 takes a hit or none apart by let else.
     #[tactic(auto, unfolding(crate::specs::Opening::counted, crate::specs::Opening::missed_by))]
     fn counted(self, r: Traced) -> Openings
         requires missed_bound { self.missed < 16 }

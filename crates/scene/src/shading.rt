@@ -17,7 +17,7 @@ pub fn soft_shadow(scene: &Scene, ray: Ray, k: f32) -> Shadow
         ph: 1e20,
         steps: 0,
     };
-    // Kept: the cursor counts its samples, and marching cursors are passed on by value.
+    // Kept: document 01 has marching cursors as values, and this one counts its own samples.
     while m.steps < 96 && m.t < ray.tmax {
         let h = dist(scene, ray.at(m.t));
         if h < 1e-4 {

@@ -13,8 +13,8 @@ use transfer::{Room, check};
 // light that each surfel then gives off, and scratch, three floats a cluster, the clusters' light of
 // the last bounce. If no bounce is made, all three stay as lent.
 //
-// Kept: irr, rad and scratch, which are written, stay parameters, since each function that took a struct
-// of them would have to promise as well that it still holds the same three lists.
+// Kept: irr, rad and scratch, which are written, stay parameters, since a struct of slices that are written
+// would be taken apart and put together again at each call, as `clusters::Columns` is.
 pub fn solve(
     room: &Room,
     limit: usize,

@@ -30,6 +30,7 @@ pub fn faint_room(room: &Room) -> bool
 
 // Each component times k. `faint` tells whether one of these floats may be faint: the time depends on
 // it, and nothing else.
+// Kept: a flag and no closure, since both ways give the same bits and the contract knows one product.
 pub fn scaled(faint: bool, v: Vec3, k: f32) -> Vec3
     ensures { result ≡ scaled v k }
 {

@@ -10,8 +10,8 @@ use crate::rows::LitRows;
 use accept::wide;
 use vector::Vec3;
 
-// Kept: one loop for both, which takes each link's vector times its weight by this product, took 1.3
-// times as long where light is faint.
+// Kept: rows of faint light have a loop of their own: one loop with this product for both took 1.3 times
+// as long there, and any room file is to be answered within a second.
 impl LitRows<'_> {
     // Every surfel's irr, in good time where something is faint.
     pub fn faint_irr(&self, irr: &mut [f32])

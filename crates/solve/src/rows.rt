@@ -138,6 +138,7 @@ impl LitRows<'_> {
 }
 
 // The vector number i of a flat slice.
+// Kept: `vector::at` would test each place, and a loop over links indexes without tests.
 pub fn vec_at(s: &[f32], i: usize) -> Vec3
     requires { 3 * i + 2 < length s.now }
     ensures { result ≡ vec_at s.now i }

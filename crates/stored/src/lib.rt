@@ -2,7 +2,11 @@
 // what has no place is not stored.
 #![tactic(auto)]
 
+ghost use Rattle.std.specs.Prelude.{◌≡◌};
+ghost use Rattle.tables.specs.Tables.{scene_of};
+
 use replay::{Line, put_at};
+use tables::Scene;
 
 // Three counts, and places for 16 primitives, 8 planes and 16 objects.
 // Kept: counts beside tables, since a case may count more than its tables hold, or fewer.
@@ -52,5 +56,20 @@ impl Stored {
             _ => return false,
         }
         true
+    }
+
+    // The scene, lent: all places of its tables, whatever the counts say.
+    pub fn scene(&self) -> Scene<'_>
+        ensures { result ≡ scene_of self.now.prims self.now.planes self.now.objects self.now.kinds self.now.lengths self.now.plane_parts self.now.object_parts }
+    {
+        Scene {
+            prims: self.prims,
+            planes: self.planes,
+            objects: self.objects,
+            kinds: &self.kinds,
+            lengths: &self.lengths,
+            plane_parts: &self.plane_parts,
+            object_parts: &self.object_parts,
+        }
     }
 }

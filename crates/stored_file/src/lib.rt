@@ -17,8 +17,8 @@ pub fn store(file: &mut [u8], line: &Line<'_>) -> bool {
 
 fn put(file: &mut [u8], given: &Words) {
     if let Some((from, words)) = given.as_slice().split_first() {
-        for k in 0..words.len() {
-            text::put(file, *from as usize + 4 * k, &words[k].to_le_bytes());
+        for (k, word) in words.iter().enumerate() {
+            text::put(file, *from as usize + 4 * k, &word.to_le_bytes());
         }
     }
 }

@@ -1,23 +1,14 @@
 // What the words of a line say of a call: its box, and how much of each table it is lent.
 use float::of_bits;
+use grid::Space;
 use replay::vec;
-use vector::Vec3;
 
-// A box and the size of its cells.
-#[derive(Clone, Copy)]
-pub struct Bounds {
-    pub lo: Vec3,
-    pub hi: Vec3,
-    pub cell: f32,
-}
-
-impl From<[u32; 16]> for Bounds {
-    fn from(w: [u32; 16]) -> Bounds {
-        Bounds {
-            lo: vec(w[0], w[1], w[2]),
-            hi: vec(w[3], w[4], w[5]),
-            cell: of_bits(w[6]),
-        }
+// The box that the words say, and the side of its cells.
+pub fn space_of(w: [u32; 16]) -> Space {
+    Space {
+        lo: vec(w[0], w[1], w[2]),
+        hi: vec(w[3], w[4], w[5]),
+        cell: of_bits(w[6]),
     }
 }
 

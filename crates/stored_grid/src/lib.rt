@@ -6,13 +6,15 @@
 mod lent;
 
 use float::of_bits;
-pub use lent::{Bounds, Lent};
+use grid::Space;
+pub use lent::Lent;
+use lent::space_of;
 use replay::{Line, Words, put, put_at, shown};
 
 // A box, places for 32 surfels, 520 starts, 32 items, a list of 64, 8 probes and their readings.
 #[derive(Drop)]
 pub struct Stored {
-    pub bounds: Bounds,
+    pub space: Space,
     pub p: [f32; 96],
     pub normals: [f32; 96],
     pub irr: [f32; 96],
@@ -30,7 +32,7 @@ impl Stored {
     // Every place holds zero, and nothing is lent.
     pub fn nothing() -> Stored {
         Stored {
-            bounds: Bounds::from([0; 16]),
+            space: space_of([0; 16]),
             p: [0.0; 96],
             normals: [0.0; 96],
             irr: [0.0; 96],
@@ -53,7 +55,7 @@ impl Stored {
         let w = line.given.padded();
         let at = 3 * w[0] as usize;
         match line.name {
-            b"box" => self.bounds = Bounds::from(w),
+            b"box" => self.space = space_of(w),
             b"surfel" => {
                 put_at(&mut self.p, at, &w[1..4]);
                 put_at(&mut self.normals, at, &w[4..7]);

@@ -1,4 +1,7 @@
 // Products and quotients of vectors.
+//
+// Kept: three lines each, as those of `Vec3` are, since a product handed in would need its contract at each
+// call.
 ghost use Rattle.std.specs.Prelude.{◌≡◌};
 ghost use Rattle.vector.specs.Vector.{scaled, times, over};
 

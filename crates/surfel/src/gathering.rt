@@ -56,8 +56,7 @@ impl Surfels<'_> {
 }
 
 // The vector number i of a flat slice.
-// Kept: `vector::at` tests at each call whether the slice has it, since a public function has no
-// `requires`; here it is proved.
+// Kept: `vector::at` would test each place, and a loop over surfels indexes without tests.
 fn vec_at(s: &[f32], i: usize) -> Vec3
     requires { 3 * i + 2 < length s.now }
     ensures { result ≡ vec_at s.now i }

@@ -33,6 +33,7 @@ impl<'a> Model for Surfels<'a> {
 }
 
 // Many probes: how many, their points, their normals, and the radius.
+// Kept: a count stands beside the slices, since C lends both and a slice may be longer or shorter.
 #[derive(Drop)]
 pub struct Probes<'a> {
     pub count: usize,
@@ -75,8 +76,8 @@ pub struct Weighed {
 
 // The light at a point, or that it is unseen: the weights of the surfels near it do not exceed
 // 0.000001, as a NaN does not.
-// Kept: no Option, since a point that no surfel covers must not pass for a dark one, which `None`
-// would by `unwrap_or_default`.
+// Kept: no Option, since document 01 has the reading as an enum, seen with the light or unseen, and a point
+// that no surfel covers must not pass for a dark one.
 #[derive(Clone, Copy)]
 pub enum Reading {
     Seen(Vec3),

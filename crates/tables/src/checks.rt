@@ -87,6 +87,7 @@ impl Scene<'_> {
     }
 
     // Whether the floats of primitive k are in their range. A kind over 6 uses none.
+    // Kept: the kind's number is tested, since the shape of a kind over 6 counts as that of 6.
     #[tactic(auto, unfolding(crate::specs::Checks::prim_within))]
     fn prim_within(&self, k: usize) -> bool
         ensures { result ≡ prim_within self.now k }

@@ -142,6 +142,7 @@ fn part_at_end(parts: &[u32], j: usize) -> Part
 }
 
 // The number at place k of s, or 0 where s ends before.
+// Kept: a line of its own beside `vector::float_at`, whose value past the end is NaN.
 pub fn number_at(s: &[u32], k: usize) -> u32
     ensures { result ≡ number_at s.now k }
 {

@@ -2,7 +2,7 @@
 use mathlib.Core.Path.{◌≡◌, refl}
 use mathlib.Core.List.{[], ◌∷◌, map}
 use Rattle.std.specs.Prelude.{Some, None}
-use Rattle.text.specs.Digits.{last_digits, hex_digits, decimal_within, decimal_digits, decimal_of}
+use Rattle.text.specs.Digits.{last_digits, hex_digits, decimal_within, decimal_digits}
 use Rattle.text.specs.Words.{spelled, word_at}
 
 -- `3F2AA800`, `00000000`, `FFFFFFFF`
@@ -22,11 +22,6 @@ pub decimals : map decimal_digits (0 ∷ 7 ∷ 10 ∷ 400000 ∷ 4294967295 ∷ 
     ∷ (52 ∷ 50 ∷ 57 ∷ 52 ∷ 57 ∷ 54 ∷ 55 ∷ 50 ∷ 57 ∷ 53 ∷ []) ∷ []
 unfolding decimal_within
 decimals = refl
-
--- `10` in an array of ten bytes
-pub ten : decimal_of 10 ≡ record { digits = 49 ∷ 48 ∷ 0 ∷ 0 ∷ 0 ∷ 0 ∷ 0 ∷ 0 ∷ 0 ∷ 0 ∷ []; count = 2 }
-unfolding decimal_within
-ten = refl
 
 -- `3F2AA800` is a word; `3f2AA800`, `3G2AA800` and `3F2AA80` are none
 pub words : map (λ s. word_at s 0)

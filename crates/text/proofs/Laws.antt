@@ -8,12 +8,12 @@ use native.Mathlib.Nat.{pow-suc, pow-succ', mul_assoc, mod-lt, div-one, div-div-
 use native.Mathlib.Numerals.{add-one}
 use lib.Dec.{leb, ltb}
 use lib.ListN.{length, take, drop, length-append, length-take, length-drop}
-use lib.Seq.{append_snoc, take_at, take-append_seam, drop-append_seam}
+use lib.Seq.{append_snoc, take_at, drop-append_seam}
 use borrow.Author.Tests.{lt-ltb, le-ltb, le-leb, lt-leb, ltb-true, ltb-false, leb-true}
 use Rattle.std.specs.Prelude.{Option, Some, None, option_and_then}
-use Rattle.text.specs.Digits.{glyph, last_digits, hex_digits, decimal_within, decimal_digits, decimal_of}
+use Rattle.text.specs.Digits.{glyph, last_digits, hex_digits, decimal_within, decimal_digits}
 use Rattle.text.specs.Words.{digit_of, spelled, word_at}
-use Rattle.text.proofs.Spelling.{length_digits}
+use Rattle.text.proofs.Spelling.{length_digits, decimal_digits_lem}
 use Rattle.text.proofs.Words.{within, digit_below}
 
 -- eight digits a word
@@ -125,6 +125,8 @@ decimal_fewest (suc k) n h = by (ltb n 10) refl (decimal_fewest k (n / 10))
         let p : 10 ^ suc k ≡ 10 ^ k * 10 = pow-suc 10 k in
         rw length-append (one_more (length (decimal_within k (n / 10))) n (ltb-false n 10 e) (ih (omega arith)))
 
--- the first `count` bytes of a numeral are the number's digits
-pub numeral_digits : (n : ℕ) → take (decimal_of n).count (decimal_of n).digits ≡ decimal_digits n
-numeral_digits n = take-append_seam (decimal_digits n) _
+-- an array that has a number's last digits in front, as many as it takes, has just its decimal digits once it is cut after them
+pub numeral_digits : (n : ℕ) (rest : List ℕ) → let count = length (decimal_digits n) in take count (last_digits 10 count n ++ rest) ≡ decimal_digits n
+numeral_digits n rest =
+    let count = length (decimal_digits n) in
+    take_at (last_digits 10 count n) rest count (length_digits 10 count n) ∙ decimal_digits_lem 10 n

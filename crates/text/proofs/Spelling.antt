@@ -4,14 +4,13 @@ use mathlib.Core.Path.{◌≡◌, refl}
 use mathlib.Core.Bool.{Bool, true, false, cond}
 use mathlib.Core.List.{List, [], ◌∷◌, ◌++◌}
 use native.Mathlib.Omega.{arith}
-use native.Mathlib.Nat.{mod-eq_of_lt, pow-suc, sub-zero, suc-sub-suc}
+use native.Mathlib.Nat.{mod-eq_of_lt, pow-suc}
 use native.Mathlib.Numerals.{add-one}
 use lib.Dec.{ltb}
-use lib.ListN.{length, drop, set, replicate, length-append, length-set}
+use lib.ListN.{length, drop, set, length-append, length-set}
 use lib.Seq.{append_snoc, drop-cons, drop-set-lt, get_or-set_same}
 use borrow.Author.Tests.{ltb-true, lt-ltb, le-ltb}
-use Rattle.text.specs.declared.Numeral.{Numeral}
-use Rattle.text.specs.Digits.{glyph, last_digits, decimal_within, decimal_digits, decimal_of}
+use Rattle.text.specs.Digits.{glyph, last_digits, decimal_within}
 
 -- there are as many as were asked for
 pub length_digits : (b k n : ℕ) → length (last_digits b k n) ≡ k
@@ -71,15 +70,3 @@ decimal_digits_lem (suc k) n = by (ltb n 10) refl (decimal_digits_lem k (n / 10)
         ≡ cond t (glyph n ∷ []) (decimal_within k (n / 10) ++ (glyph (n % 10) ∷ []))
     by true e h = rw (mod-eq_of_lt (ltb-true n 10 e))
     by false e h = rw (length-append, add-one, h)
-
--- what is left of n zeros after the first k
-pub drop_replicate : (k n : ℕ) (a : ℕ) → k ≤ n → drop k (replicate n a) ≡ replicate (n - k) a
-drop_replicate zero n a h = rw sub-zero
-drop_replicate (suc k) zero a h = absurd (omega arith)
-drop_replicate (suc k) (suc n) a h = rw suc-sub-suc (drop_replicate k n a (omega arith))
-
--- the array after `spell`, with the count, is the numeral
-pub numeral : (n count : ℕ) (l : List ℕ) → count ≡ length (decimal_digits n) → l ≡ last_digits 10 count n ++ drop count (replicate 10 0)
-    → ◌≡◌ {A = Numeral} (record { digits = l; count = count }) (decimal_of n)
-numeral n count l e h =
-    rw (h, e, decimal_digits_lem 10 n, drop_replicate (length (decimal_digits n)) 10 0 (decimal-length 10 n))

@@ -1,6 +1,5 @@
 -- A number as text, for document 01, 'The room file and `roomlight`': floats are eight hexadecimal digits of their bits, counts are decimal. Definitions only.
-use Rattle.std.specs.Prelude.{ℕ, zero, suc, ◌+◌, ◌-◌, ◌/◌, ◌%◌, cond, List, [], ◌∷◌, ◌++◌, ltb, length, replicate}
-use Rattle.text.specs.declared.Numeral.{Numeral}
+use Rattle.std.specs.Prelude.{ℕ, zero, suc, ◌+◌, ◌/◌, ◌%◌, cond, List, [], ◌∷◌, ◌++◌, ltb}
 
 -- the ASCII code of a digit below 16: `0` to `9`, then `A` to `F`
 abbrev pub glyph : ℕ → ℕ
@@ -23,8 +22,3 @@ decimal_within (suc k) n = cond (ltb n 10) (glyph n ∷ []) (decimal_within k (n
 -- n in decimal; a u32 has at most ten digits
 abbrev pub decimal_digits : ℕ → List ℕ
 decimal_digits n = decimal_within 10 n
-
--- those digits, zeros after them up to ten bytes, and how many digits there are
-abbrev pub decimal_of : ℕ → Numeral
-decimal_of n =
-    record { digits = decimal_digits n ++ replicate (10 - length (decimal_digits n)) 0; count = length (decimal_digits n) }

@@ -11,12 +11,3 @@ mod reading;
 pub use line::put;
 pub use number::{decimal, hex};
 pub use reading::word;
-
-// A number's decimal digits: the first `count` bytes. The bytes after them are zero.
-//
-// Kept: bytes and a count, which a line takes as one slice; see `lines::Line`.
-#[derive(Clone, Copy)]
-pub struct Numeral {
-    pub digits: [u8; 10],
-    pub count: usize,
-}

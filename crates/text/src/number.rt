@@ -2,10 +2,10 @@
 //
 // Kept: digits are put into lent bytes, since `Display` writes to what may fail, and this can't.
 ghost use Rattle.std.specs.Prelude.{◌≤◌, ◌<◌, ◌≡◌, ◌++◌, length, drop};
-ghost use Rattle.text.specs.Digits.{last_digits, hex_digits, decimal_digits, decimal_of};
+ghost use Rattle.text.specs.Digits.{last_digits, hex_digits, decimal_digits};
 ghost use Rattle.text.specs.Digits.{glyph as Digits·glyph};
 
-use crate::Numeral;
+use arrayvec::ArrayVec;
 
 // The eight hexadecimal digits of w in upper case, the most significant first.
 pub fn hex(w: u32) -> [u8; 8]
@@ -17,13 +17,15 @@ pub fn hex(w: u32) -> [u8; 8]
 }
 
 // The decimal digits of n, the most significant first, with no zero in front; 0 is one digit.
-pub fn decimal(n: u32) -> Numeral
-    ensures { result ≡ decimal_of n }
+pub fn decimal(n: u32) -> ArrayVec<u8, 10>
+    ensures { result.items ≡ decimal_digits n }
 {
     let count = places(n);
     let mut digits = [0u8; 10];
     spell(n, 10, count, &mut digits);
-    Numeral { digits, count }
+    let mut numeral = ArrayVec::from(digits);
+    numeral.truncate(count);
+    numeral
 }
 
 // How many decimal digits n takes.

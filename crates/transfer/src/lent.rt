@@ -1,4 +1,6 @@
 // A room as a solve is lent it.
+//
+// Kept: a count stands beside the slices, since C lends both and a slice may be longer or shorter.
 use std::marker::Model;
 
 // Clusters: their areas; of each the first of its members, and how many they are; and of each member,

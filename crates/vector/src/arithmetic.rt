@@ -1,4 +1,7 @@
 // Sums, products and lengths of vectors.
+//
+// Kept: a method each and no operators or closures, since document 01 has vectors by value with methods
+// that take self.
 ghost use Rattle.std.specs.Prelude.{◌≡◌};
 ghost use Rattle.vector.specs.Vector.{dot, cross, plus, minus, negated, scaled, times, over};
 ghost use Rattle.vector.specs.Vector.{absolutes, greaters, lessers, greatest, length_squared, length_of, normalize, zero_vec};

@@ -5,4 +5,4 @@ use Rattle.interflect.proofs.placing.interflect_generate.Goals as goal
 
 pub returns : goal.returns
 returns c =
-    record { rad_after = told_with left c.tell_placed.ensures c.generate-answer.ensures.rad_value; kept_from = c.generate-answer.ensures.kept_from; kept_from_2 = c.generate-answer.ensures.kept_from_2 }
+    record { rad_after = told_with left c.tell_count.ensures c.generate-answer.ensures.rad_value; kept_from = c.generate-answer.ensures.kept_from; kept_from_2 = c.generate-answer.ensures.kept_from_2 }

@@ -5,4 +5,4 @@ use Rattle.interflect.proofs.surfels.interflect_near.Goals as goal
 
 pub returns : goal.returns
 returns c =
-    told_with left c.tell_listed.ensures c.near-answer.ensures
+    told_with left c.tell_count.ensures c.near-answer.ensures

@@ -1,11 +1,8 @@
 -- `report::entries::write_report` meets its contract. What refuses the file is the definition's, and the text that is stored, which fits, is the one that it gives. Assumes nothing.
-use mathlib.Core.List.{[]}
-use mathlib.Core.Path.{◌≡◌, refl, sym, ◌∙◌}
+use mathlib.Core.Path.{◌≡◌, sym, ◌∙◌}
 use native.Mathlib.Omega.{arith}
 use Rattle.lines.specs.Lines.{refused_line}
-use Rattle.lines.proofs.Widths.{refused_width}
 use Rattle.report.specs.Report.{lines_of, report_check}
-use Rattle.report.proofs.Texts.{made_lined, line_stored}
 use Rattle.report.proofs.Printed.{report_lines, report_refused, report_stored}
 use Rattle.report.proofs.entries.write_report.Goals as goal
 use Rattle.report.proofs.entries.write_report.Goals.{After-check}
@@ -13,12 +10,6 @@ use Rattle.report.proofs.entries.write_report.Goals.{After-check}
 -- what the check answers
 checked : (c : After-check) → c.check.result ≡ report_check c.args.bytes.now
 checked c = rw (c.check.ensures, c.grid_fits-fits.ensures, c.probe_box.ensures, c.new-file.ensures)
-
-pub put_line-requires : goal.put_line-requires
-put_line-requires c =
-    let number = c.from.result in
-    let w = refused_width number in
-    record { at_bound = omega arith; lined = made_lined (refused_line number) (omega arith) c.refused.ensures }
 
 pub returns-in-Ok : goal.returns-in-Ok
 returns-in-Ok c =
@@ -34,8 +25,6 @@ returns-in-Err c =
     let b = c.args.bytes.now in
     let number = c.from.result in
     let e = sym (checked (goal.at.returns-in-Err c).After-check) ∙ c.in-Err.is in
-    let w = refused_width number in
-    let put = c.put_line.ensures in
-    let l = line_stored (refused_line number) (omega arith) c.args.text.now [] 0 c.refused.ensures refl refl put.text_after put.value in
-    let h = report_stored b c.args.text.now (refused_line number) c.requires (rw c.from.ensures (report_refused b c.in-Err.refusal e)) l.0 (omega (arith, l.1)) in
+    let put = rw c.refused.ensures at c.put_line.ensures in
+    let h = report_stored b c.args.text.now (refused_line number) c.requires (rw c.from.ensures (report_refused b c.in-Err.refusal e)) put.text_after (omega (arith, put.value)) in
     record { text_after = h.0; value = h.1 }

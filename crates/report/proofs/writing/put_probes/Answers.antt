@@ -5,10 +5,7 @@ use lib.ListN.{length}
 use lib.Seq.{length-sets}
 use borrow.Author.Rules.{rules}
 use Rattle.vector.specs.Flat.{rows}
-use Rattle.lines.specs.Lines.{line_of}
-use Rattle.lines.proofs.Widths.{probe_short}
-use Rattle.report.specs.Needs.{seen_in}
-use Rattle.report.proofs.Texts.{line_at, lines_within, made_lined, probe_stored}
+use Rattle.report.proofs.Texts.{line_at, lines_within, probe_stored}
 use Rattle.report.proofs.writing.put_probes.Goals as goal
 
 pub loop-i-init : goal.loop-i-init
@@ -21,13 +18,12 @@ put_line-to-requires c =
     let seen = c.args.seen.now in
     let light = c.args.light.now in
     let i = c.loop-i.i in
-    let e : c.probe-line.result ≡ line_of (line_at seen light i) = rw c.seen_in.ensures at c.probe-line.ensures in
-    record { at_bound = omega (arith, c.loop-i.invariant.2, lines_within seen light i); lined = made_lined (line_at seen light i) (probe_short i (seen_in seen light i)) e }
+    omega (arith, c.loop-i.invariant.2, lines_within seen light i)
 
 pub loop-i-preserved : goal.loop-i-preserved
 loop-i-preserved c =
     let seen = c.args.seen.now in let light = c.args.light.now in let i = c.loop-i.i in
-    let e : c.probe-line.result ≡ line_of (line_at seen light i) = rw c.seen_in.ensures at c.probe-line.ensures in
+    let e : c.probe-line.result ≡ line_at seen light i = rw c.seen_in.ensures at c.probe-line.ensures in
     let m = probe_stored seen light i c.args.text.now c.args.at e c.loop-i.invariant.1 c.loop-i.invariant.2 c.put_line-to.ensures.text_after c.put_line-to.ensures.value in
     (search rules, m.0, m.1)
 

@@ -1,6 +1,7 @@
--- `text::decimal` meets its contract. The digits are the last ones in base 10, as many as there are, and zeros are left after them. Assumes nothing.
+-- `text::decimal` meets its contract. The digits are the last ones in base 10, as many as there are, and the array is cut after them. Assumes nothing.
 use native.Mathlib.Omega.{arith}
-use Rattle.text.proofs.Spelling.{decimal-length, numeral}
+use Rattle.text.proofs.Spelling.{decimal-length}
+use Rattle.text.proofs.Laws.{numeral_digits}
 use Rattle.text.proofs.number.decimal.Goals as goal
 
 pub spell-requires : goal.spell-requires
@@ -9,4 +10,4 @@ spell-requires c =
 
 pub returns : goal.returns
 returns c =
-    numeral _ _ _ c.places-count.ensures c.spell.ensures
+    rw (c.truncate.ensures.items, c.from-numeral.ensures.0, c.spell.ensures, c.places-count.ensures) (numeral_digits c.args.n _)

@@ -17,21 +17,21 @@ pub returns-then-closer : goal.returns-then-closer
 returns-then-closer c =
     let k : ℕ → ℕ = key_of c.args.self.now.s (vec_at c.args.self.now.p.now) in
     let t : ℕ → Bool = λ j. closer c.args.self.now.s c.args.at (vec_at c.args.self.now.p.now j) in
-    let e = sym (c.closer.ensures ∙ ap (closer c.args.self.now.s c.args.at) c.point_at.ensures) ∙ c.if-closer.true in
+    let e = sym (c.closer.ensures ∙ ap (closer c.args.self.now.s c.args.at) c.at.ensures) ∙ c.if-closer.true in
     sym (search_found k t c.args.c _ c.args.self.now.count c.args.self.now.chained.chained c.loop-link.invariant c.loop-link-test.true e)
 
 pub loop-link-smaller : goal.loop-link-smaller
 loop-link-smaller c =
     let k : ℕ → ℕ = key_of c.args.self.now.s (vec_at c.args.self.now.p.now) in
     let t : ℕ → Bool = λ j. closer c.args.self.now.s c.args.at (vec_at c.args.self.now.p.now j) in
-    let e = sym (c.closer.ensures ∙ ap (closer c.args.self.now.s c.args.at) c.point_at.ensures) ∙ c.if-closer.false in
+    let e = sym (c.closer.ensures ∙ ap (closer c.args.self.now.s c.args.at) c.at.ensures) ∙ c.if-closer.false in
     (search_goes k t c.args.c _ c.args.self.now.count c.args.self.now.chained.chained c.loop-link.invariant c.loop-link-test.true e c.wide-link-in-loop-link.ensures).1
 
 pub loop-link-preserved : goal.loop-link-preserved
 loop-link-preserved c =
     let k : ℕ → ℕ = key_of c.args.self.now.s (vec_at c.args.self.now.p.now) in
     let t : ℕ → Bool = λ j. closer c.args.self.now.s c.args.at (vec_at c.args.self.now.p.now j) in
-    let e = sym (c.closer.ensures ∙ ap (closer c.args.self.now.s c.args.at) c.point_at.ensures) ∙ c.if-closer.false in
+    let e = sym (c.closer.ensures ∙ ap (closer c.args.self.now.s c.args.at) c.at.ensures) ∙ c.if-closer.false in
     (search_goes k t c.args.c _ c.args.self.now.count c.args.self.now.chained.chained c.loop-link.invariant c.loop-link-test.true e c.wide-link-in-loop-link.ensures).0
 
 pub returns : goal.returns
