@@ -8,14 +8,14 @@ use Rattle.records.specs.declared.Light.{Light as LightRecord}
 use Rattle.transfer.specs.Room.{Room, Light}
 use Rattle.accept.specs.Refusal.{refusal_number}
 use Rattle.solve.specs.declared.SolveStats.{SolveStats}
-use Rattle.outs.specs.Solves.{solve_left}
+use Rattle.outs.specs.Outs.{left}
 
 -- the entries
 abbrev pub interflect_solve : Room → ℕ → SolveStats → Light → List Float → ℕ × SolveStats × Light × List Float
 interflect_solve r limit held l s =
     let a = solve_answer r limit l s in
-    let left = solve_left a.0 held in
-    (left.0, left.1, a.1, a.2)
+    let told = left a.0 held in
+    (told.0, told.1, a.1, a.2)
 
 abbrev pub interflect_reset : List Float → List Float → List Float → List Float → ℕ × List Float × List Float × List Float
 interflect_reset light direct irr rad =

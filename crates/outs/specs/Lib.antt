@@ -3,5 +3,4 @@ pub mod Outs
 pub mod Scenes
 pub mod Surfels
 pub mod Rows
-pub mod Solves
 pub mod Reading

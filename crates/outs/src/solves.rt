@@ -1,7 +1,6 @@
 // What a solve answered, told through references.
 ghost use Rattle.std.specs.Prelude.{◌≡◌};
-ghost use Rattle.outs.specs.Outs.{stats_outs};
-ghost use Rattle.outs.specs.Solves.{solve_left};
+ghost use Rattle.outs.specs.Outs.{left, stats_outs};
 
 use accept::Refusal;
 use solve::SolveStats;
@@ -12,7 +11,7 @@ pub fn tell_solved(
     bounces: &mut usize,
     change: &mut f32,
 ) -> u32
-    ensures { (result, (stats_outs bounces change).exit) ≡ solve_left answer (stats_outs bounces change).entry }
+    ensures { (result, (stats_outs bounces change).exit) ≡ left answer (stats_outs bounces change).entry }
 {
     match answer {
         Ok(made) => {

@@ -4,12 +4,12 @@ use mathlib.Core.Path.{◌≡◌, refl, sym, ap, ◌∙◌}
 use mathlib.Core.Bool.{Bool, true, false, cond, ◌&&◌}
 use mathlib.Core.List.{List, [], ◌∷◌, ◌++◌, append-nil, append_assoc}
 use native.Mathlib.Omega.{arith}
-use native.Mathlib.Nat.{pow-suc, pow-succ', mul_assoc, mod-lt, div-one, div-div-eq-div-mul, sub-zero, suc-sub-suc}
+use native.Mathlib.Nat.{pow-le-pow_right, pow-suc, pow-succ', mul_assoc, mod-lt, div-one, div-div-eq-div-mul, sub-zero, suc-sub-suc}
 use native.Mathlib.Numerals.{add-one}
 use lib.Dec.{leb, ltb}
 use lib.ListN.{length, take, drop, length-append, length-take, length-drop}
 use lib.Seq.{append_snoc, take_at, drop-append_seam}
-use borrow.Author.Tests.{lt-ltb, le-ltb, le-leb, lt-leb, ltb-true, ltb-false, leb-true}
+use borrow.Author.Tests.{lt-ltb, le-ltb, le-leb, lt-leb, ltb-true, ltb-false, leb-true, leb-false}
 use Rattle.std.specs.Prelude.{Option, Some, None, option_and_then}
 use Rattle.text.specs.Digits.{glyph, last_digits, hex_digits, decimal_within, decimal_digits}
 use Rattle.text.specs.Words.{digit_of, spelled, word_at}
@@ -124,6 +124,27 @@ decimal_fewest (suc k) n h = by (ltb n 10) refl (decimal_fewest k (n / 10))
     by false e ih =
         let p : 10 ^ suc k ≡ 10 ^ k * 10 = pow-suc 10 k in
         rw length-append (one_more (length (decimal_within k (n / 10))) n (ltb-false n 10 e) (ih (omega arith)))
+
+-- a number from a power of ten on, and below the next, takes one digit more than the power
+pub power-length : (n k : ℕ) → n < 10 ^ 10 → 10 ^ k ≤ n → n < 10 * 10 ^ k → k + 1 ≡ length (decimal_digits n)
+power-length n k f low high = by (leb l k) refl (leb (k + 2) l) refl
+  where
+    l : ℕ
+    l = length (decimal_digits n)
+
+    w : Fewest n l
+    w = decimal_fewest 10 n f
+
+    by : (s : Bool) → leb l k ≡ s → (t : Bool) → leb (k + 2) l ≡ t → k + 1 ≡ l
+    by true e t g =
+        let p : 10 ^ l ≤ 10 ^ k = pow-le-pow_right {n = 10} (omega arith) {i = l} {j = k} (leb-true l k e) in
+        absurd (omega (arith, w.0))
+    by false e true g =
+        let h : k + 2 ≤ l = leb-true (k + 2) l g in
+        let p : 10 ^ suc k ≤ 10 ^ (l - 1) = pow-le-pow_right {n = 10} (omega arith) {i = suc k} {j = l - 1} (omega arith) in
+        let q : 10 ^ suc k ≡ 10 ^ k * 10 = pow-suc 10 k in
+        absurd (omega (arith, w.1 (omega arith)))
+    by false e false g = omega (arith, leb-false l k e, leb-false (k + 2) l g)
 
 -- an array that has a number's last digits in front, as many as it takes, has just its decimal digits once it is cut after them
 pub numeral_digits : (n : ℕ) (rest : List ℕ) → let count = length (decimal_digits n) in take count (last_digits 10 count n ++ rest) ≡ decimal_digits n

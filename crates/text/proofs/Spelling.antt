@@ -1,15 +1,15 @@
 -- The digits of a number: the turns of the loops that count and write them, and how many there are. Assumes nothing.
-use Prim.Native.Nat.{ℕ, zero, suc, ◌+◌, ◌*◌, ◌-◌, ◌/◌, ◌%◌, ◌^◌, ◌≤◌, ◌<◌}
+use Prim.Native.Nat.{ℕ, zero, suc, ◌-◌, ◌/◌, ◌%◌, ◌≤◌, ◌<◌}
 use mathlib.Core.Path.{◌≡◌, refl}
 use mathlib.Core.Bool.{Bool, true, false, cond}
 use mathlib.Core.List.{List, [], ◌∷◌, ◌++◌}
 use native.Mathlib.Omega.{arith}
-use native.Mathlib.Nat.{mod-eq_of_lt, pow-suc}
+use native.Mathlib.Nat.{mod-eq_of_lt}
 use native.Mathlib.Numerals.{add-one}
 use lib.Dec.{ltb}
 use lib.ListN.{length, drop, set, length-append, length-set}
 use lib.Seq.{append_snoc, drop-cons, drop-set-lt, get_or-set_same}
-use borrow.Author.Tests.{ltb-true, lt-ltb, le-ltb}
+use borrow.Author.Tests.{ltb-true, lt-ltb}
 use Rattle.text.specs.Digits.{glyph, last_digits, decimal_within}
 
 -- there are as many as were asked for
@@ -32,15 +32,6 @@ pub one_digit : (k n : ℕ) → n < 10 → decimal_within (suc k) n ≡ glyph n 
 unfolding decimal_within
 one_digit k n h = rw (lt-ltb n 10 h)
 
--- any other number is its tenth part and then its last digit
-pub more_digits : (k n : ℕ) → 10 ≤ n → decimal_within (suc k) n ≡ decimal_within k (n / 10) ++ (glyph (n % 10) ∷ [])
-unfolding decimal_within
-more_digits k n h = rw (le-ltb n 10 h)
-
--- so it has one more
-pub more-length : (k n : ℕ) → 10 ≤ n → length (decimal_within (suc k) n) ≡ length (decimal_within k (n / 10)) + 1
-more-length k n h = rw (more_digits k n h, length-append)
-
 -- at most k digits
 pub decimal-length : (k n : ℕ) → length (decimal_within k n) ≤ k
 unfolding decimal_within
@@ -51,13 +42,6 @@ decimal-length (suc k) n = by (ltb n 10) (decimal-length k (n / 10))
         → length (cond t (glyph n ∷ []) (decimal_within k (n / 10) ++ (glyph (n % 10) ∷ []))) ≤ suc k
     by true h = omega arith
     by false h = simp length-append (omega arith)
-
--- a turn of the loop that counts decimal digits, at a number that is left of at most k + 1 digits
-pub counted : (k n count whole : ℕ) → 10 ≤ n → n < 10 ^ suc k → count + length (decimal_within (suc k) n) ≡ whole
-    → (j : ℕ) × (n / 10 < 10 ^ suc j) × (count + 1 + length (decimal_within (suc j) (n / 10)) ≡ whole)
-counted zero n count whole h hk e = absurd (omega arith)
-counted (suc k) n count whole h hk e =
-    let p : 10 ^ suc (suc k) ≡ 10 ^ suc k * 10 = pow-suc 10 (suc k) in (k, omega arith, omega (arith, more-length (suc k) n h))
 
 -- decimal digits are the last digits in base 10, as many as there are
 pub decimal_digits_lem : (k n : ℕ) → last_digits 10 (length (decimal_within k n)) n ≡ decimal_within k n

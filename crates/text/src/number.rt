@@ -29,17 +29,13 @@ pub fn decimal(n: u32) -> ArrayVec<u8, 10>
 }
 
 // How many decimal digits n takes.
-// Kept: a turn takes one digit off, and no range says how many there are.
 fn places(n: u32) -> usize
     ensures { result ≡ length (decimal_digits n) }
 {
-    let mut count = 1;
-    let mut rest = n;
-    while 10 <= rest {
-        rest /= 10;
-        count += 1;
+    match n.checked_ilog10() {
+        Some(power) => power as usize + 1,
+        None => 1,
     }
-    count
 }
 
 // Puts the last k digits of n in base at the start of out.

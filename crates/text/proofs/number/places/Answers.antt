@@ -1,22 +1,16 @@
--- `text::number::places` meets its contract. The digits that are counted, with those of what is left, are one more than all of them. Assumes nothing.
-use mathlib.Core.Path.{ap}
+-- `text::number::places` meets its contract. The power of ten below a number says how many digits it takes; 0 takes one. Assumes nothing.
 use native.Mathlib.Omega.{arith}
 use lib.ListN.{length}
-use Rattle.text.proofs.Spelling.{one_digit, counted, decimal-length}
+use mathlib.Core.Path.{ap}
+use Rattle.text.proofs.Laws.{power-length}
+use Rattle.text.proofs.Spelling.{one_digit}
 use Rattle.text.proofs.number.places.Goals as goal
 
-pub loop-rest-init : goal.loop-rest-init
-loop-rest-init c =
-    (9, omega arith, omega arith)
+pub returns-in-Some : goal.returns-in-Some
+returns-in-Some c =
+    power-length c.args.n c.in-Some.power (omega arith) c.in-Some.ensures.power_le c.in-Some.ensures.next_power_gt
 
-pub overflow_add-count : goal.overflow_add-count
-overflow_add-count c =
-    omega (arith, c.loop-rest.invariant, decimal-length 10 c.args.n)
-
-pub loop-rest-preserved : goal.loop-rest-preserved
-loop-rest-preserved c =
-    counted c.loop-rest.invariant.0 c.loop-rest.rest c.loop-rest.count _ c.loop-rest-test.true c.loop-rest.invariant.1 c.loop-rest.invariant.2
-
-pub returns : goal.returns
-returns c =
-    omega (arith, c, c.loop-rest.invariant.2, ap length (one_digit c.loop-rest.invariant.0 c.loop-rest.rest (omega arith)))
+pub returns-in-None : goal.returns-in-None
+returns-in-None c =
+    let z = c.in-None.ensures.none in
+    omega (arith, ap length (one_digit 9 c.args.n (omega arith)))
