@@ -1,7 +1,7 @@
 -- The parts of a positive float: their bounds, and that they give its value. Assumes nothing.
 use mathlib.Core.Path.{◌≡◌, refl, sym, ap, ◌∙◌, subst}
 use mathlib.Core.Logic.{inl, inr}
-use mathlib.Core.Bool.{Bool, true, false, not, cond, true≢false}
+use mathlib.Core.Bool.{Bool, true, false, cond, true≢false}
 use Prim.Native.Nat.{ℕ, suc, ◌+◌, ◌-◌, ◌*◌, ◌/◌, ◌%◌, ◌^◌, ◌≤◌, ◌<◌}
 use native.Mathlib.Nat.{le_trans, le_of_eq, lt_of_lt_of_le, lt_of_not-le, not-le_of_lt, mul-pos, two-pow-succ}
 use native.Mathlib.Omega.{arith}
@@ -9,7 +9,7 @@ use lib.Dec.{T}
 use borrow.Author.Tests.{lt-ltb, le-ltb}
 use lib.Pow.{pow_pos, pow_mono}
 use lib.Count.{count_leading_zeros, leading_length}
-use lib.Ieee.{Float, nan, inf, fin, binary32, size, odd, lt, is_nan, fits, of_bits, to_bits}
+use lib.Ieee.{Float, binary32, size, odd, lt, fits, of_bits, to_bits}
 use lib.Ieee.Bits.{of_bits-to_bits}
 use lib.Ieee.Digits.{size-lt, size-le}
 use lib.Ieee.Exact.{HasValue, odd_sign}
@@ -92,12 +92,6 @@ value_of b u = elim (here_or_on b (2 ^ 23)) [ inl l ↦ under l | inr g ↦ over
         same = omega arith
 
 -- ---- what is above 0
-
-pub no_nan : (x : Float) → lt 0f x ≡ true → T (not (is_nan x))
-unfolding lt is_nan of_bits
-no_nan nan h = absurd (true≢false (sym h))
-no_nan (inf s) h = tt
-no_nan (fin s m e) h = tt
 
 zero_level : lt 0f 0f ≡ false
 unfolding lt of_bits

@@ -1,5 +1,4 @@
 -- What the proofs of several functions use, and the laws that other crates cite.
-pub mod Edges
 pub mod Sums
 pub mod Replaced
 pub mod Puts
