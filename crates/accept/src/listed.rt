@@ -1,10 +1,7 @@
 // What the checks read: items at places 0, 1, .. .
-ghost use Rattle.std.specs.Prelude.{◌≡◌, ℕ, ◌<◌, List, length, slice_index_or};
+ghost use Rattle.std.specs.Prelude.{◌≡◌, List, length, slice_get};
 
 // Items at places 0, 1, ..: those of a lent slice, or of a column of a file.
-//
-// Kept: `item` is asked for a place below the count alone, since a test of each place makes the
-// checks of slices 2 to 4 times as slow; the public checks, which ask nothing, test the count once.
 pub trait Listed<T>: Copy {
     ghost items: { Self → List T };
 
@@ -12,10 +9,9 @@ pub trait Listed<T>: Copy {
     fn count(self) -> usize
         ensures { result ≡ length (items self) };
 
-    // The item at place k.
-    fn item(self, k: usize) -> T
-        requires { k < length (items self) }
-        ensures { (d : T) → result ≡ slice_index_or (items self) k d };
+    // The item at place k, none past the last.
+    fn item(self, k: usize) -> Option<T>
+        ensures { result ≡ slice_get (items self) k };
 }
 
 impl<'a, T: Copy> Listed<T> for &'a [T] {
@@ -25,7 +21,7 @@ impl<'a, T: Copy> Listed<T> for &'a [T] {
         self.len()
     }
 
-    fn item(self, k: usize) -> T {
-        self[k]
+    fn item(self, k: usize) -> Option<T> {
+        self.get(k).copied()
     }
 }

@@ -20,11 +20,7 @@ pub fn within(x: f32, lo: f32, hi: f32) -> bool
 pub fn floats_within<F: Listed<f32>>(s: F, n: usize, each: usize, lo: f32, hi: f32) -> bool
     ensures { result ≡ floats_within (F.items s) n each lo hi }
 {
-    if tables::holds(s.count(), n, each) {
-        all_within(s, n * each, lo, hi)
-    } else {
-        false
-    }
+    tables::holds(s.count(), n, each) && all_within(s, n * each, lo, hi)
 }
 
 // Whether each of the first n floats of s is from lo to hi.
@@ -33,8 +29,8 @@ fn all_within<F: Listed<f32>>(s: F, n: usize, lo: f32, hi: f32) -> bool
     ensures { result ≡ all_within (float_at (F.items s)) n lo hi }
 {
     let mut ok = true;
-    for k in 0..n {
-        let x = s.item(k);
+    for k in 0..n.min(s.count()) {
+        let x = s.item(k).unwrap_or(float::nan());
         let passed = within(x, lo, hi);
         ok &= passed;
     }

@@ -16,18 +16,14 @@ pub fn at_most(n: usize, limit: usize) -> bool
 pub fn holds(len: usize, n: usize, each: usize) -> bool
     ensures { result ≡ holds len n each }
 {
-    if each == 0 { true } else { n <= len / each }
+    each == 0 || n <= len / each
 }
 
 // Whether s has n numbers or more and each of the first n is below bound.
 pub fn numbers_below<N: Listed<u32>>(s: N, n: usize, bound: usize) -> bool
     ensures { result ≡ numbers_below (N.items s) n bound }
 {
-    if n <= s.count() {
-        all_below(s, n, bound)
-    } else {
-        false
-    }
+    n <= s.count() && all_below(s, n, bound)
 }
 
 // Whether starts has n + 1 places or more, and the first n + 1 begin at 0, never fall and end at
@@ -35,11 +31,7 @@ pub fn numbers_below<N: Listed<u32>>(s: N, n: usize, bound: usize) -> bool
 pub fn starts_monotone<N: Listed<u32>>(starts: N, n: usize, end: usize) -> bool
     ensures { result ≡ starts_monotone (N.items starts) n end }
 {
-    if n < starts.count() {
-        monotone(starts, n, end)
-    } else {
-        false
-    }
+    n < starts.count() && monotone(starts, n, end)
 }
 
 // Whether the starts of n rows rise from 0 to count, links has count places or more, and the links
@@ -47,11 +39,9 @@ pub fn starts_monotone<N: Listed<u32>>(starts: N, n: usize, end: usize) -> bool
 pub fn links_ascend<N: Listed<u32>>(starts: N, n: usize, links: N, count: usize) -> bool
     ensures { result ≡ links_ascend (N.items starts) n (N.items links) count }
 {
-    if starts_monotone(starts, n, count) & (count <= links.count()) {
-        all_ascend(starts, n, links, count)
-    } else {
-        false
-    }
+    starts_monotone(starts, n, count)
+        && count <= links.count()
+        && all_ascend(starts, n, links, count)
 }
 
 // Whether firsts and counts have n ranges or more, and the first n follow one another from 0 to
@@ -59,11 +49,7 @@ pub fn links_ascend<N: Listed<u32>>(starts: N, n: usize, links: N, count: usize)
 pub fn ranges_contiguous<N: Listed<u32>>(firsts: N, counts: N, n: usize, end: usize) -> bool
     ensures { result ≡ ranges_contiguous (N.items firsts) (N.items counts) n end }
 {
-    if (n <= firsts.count()) & (n <= counts.count()) {
-        contiguous(firsts, counts, n, end)
-    } else {
-        false
-    }
+    n <= firsts.count() && n <= counts.count() && contiguous(firsts, counts, n, end)
 }
 
 // Whether each of the first n numbers of s is below bound.
@@ -72,8 +58,8 @@ fn all_below<N: Listed<u32>>(s: N, n: usize, bound: usize) -> bool
     ensures { result ≡ all_below (number_at (N.items s)) n bound }
 {
     let mut ok = true;
-    for k in 0..n {
-        ok &= wide(s.item(k)) < bound;
+    for k in 0..n.min(s.count()) {
+        ok &= wide(number(s, k)) < bound;
     }
     ok
 }
@@ -84,21 +70,21 @@ fn monotone<N: Listed<u32>>(starts: N, n: usize, end: usize) -> bool
     ensures { result ≡ monotone (number_at (N.items starts)) n end }
 {
     let mut ok = true;
-    for i in 0..n {
-        ok &= starts.item(i) <= starts.item(i + 1);
+    for i in 1..starts.count().min(n + 1) {
+        ok &= number(starts, i - 1) <= number(starts, i);
     }
-    (starts.item(0) == 0) & ok & (wide(starts.item(n)) == end)
+    (number(starts, 0) == 0) & ok & (wide(number(starts, n)) == end)
 }
 
 // Whether the links from place a up to place b strictly ascend.
-fn ascends<N: Listed<u32>>(links: N, a: usize, b: usize) -> bool
+fn ascends<N: Listed<u32>>(links: N, a: u32, b: u32) -> bool
     requires a_le_b { a ≤ b }
     requires b_in_bounds { b ≤ length (N.items links) }
     ensures { result ≡ ascends (number_at (N.items links)) a b }
 {
     let mut ok = true;
-    for j in 1..b - a {
-        ok &= links.item(a + j - 1) < links.item(a + j);
+    for j in wide(a) + 1..wide(b).min(links.count()) {
+        ok &= number(links, j - 1) < number(links, j);
     }
     ok
 }
@@ -112,7 +98,7 @@ fn all_ascend<N: Listed<u32>>(starts: N, n: usize, links: N, count: usize) -> bo
 {
     let mut ok = true;
     for i in 0..n {
-        ok &= ascends(links, wide(starts.item(i)), wide(starts.item(i + 1)));
+        ok &= ascends(links, number(starts, i), number(starts, i + 1));
     }
     ok
 }
@@ -126,11 +112,18 @@ fn contiguous<N: Listed<u32>>(firsts: N, counts: N, n: usize, end: usize) -> boo
     let mut ok = true;
     let mut edge = 0;
     for c in 0..n {
-        let first = wide(firsts.item(c));
+        let first = wide(number(firsts, c));
         ok &= first == edge;
-        edge = first + wide(counts.item(c));
+        edge = first + wide(number(counts, c));
     }
     ok & (edge == end)
+}
+
+// Number k of a list, 0 past the last.
+fn number<N: Listed<u32>>(s: N, k: usize) -> u32
+    ensures { result ≡ number_at (N.items s) k }
+{
+    s.item(k).unwrap_or(0)
 }
 
 // The same number, as an index or a count.

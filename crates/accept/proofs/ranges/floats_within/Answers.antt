@@ -18,4 +18,4 @@ returns-then-holds g c =
 
 pub returns-else-holds : goal.returns-else-holds
 returns-else-holds g c =
-    rw (← c.count.ensures, sym c.holds.ensures ∙ c.if-holds.false)
+    rw (← c.count.ensures, sym c.holds.ensures ∙ c.if-holds.false) c.if-holds.false

@@ -19,15 +19,15 @@ ascends-ok-requires g c =
     let u = h.rising i c.loop-i-test.true in
     let v = h.inside (i + 1) (omega arith) in
     record {
-      a_le_b = omega (arith, c.wide-in-loop-i.ensures, c.wide.ensures, c.item.ensures 0, c.item-in-loop-i.ensures 0, c.requires);
-      b_in_bounds = omega (arith, c.wide-in-loop-i.ensures, c.wide.ensures, c.item.ensures 0, c.item-in-loop-i.ensures 0, c.requires);
+      a_le_b = omega (arith, c.number.ensures, c.number-in-loop-i.ensures, c.requires);
+      b_in_bounds = omega (arith, c.number.ensures, c.number-in-loop-i.ensures, c.requires);
     }
 
 pub loop-i-preserved : goal.loop-i-preserved
 loop-i-preserved g c = (
   search rules,
   every_more _ _ c.loop-i.invariant.1
-      (rw (← c.item-in-loop-i.ensures 0, ← c.item.ensures 0, ← c.wide-in-loop-i.ensures, ← c.wide.ensures) c.ascends-ok.ensures),
+      (rw (← c.number-in-loop-i.ensures, ← c.number.ensures) c.ascends-ok.ensures),
 )
 
 pub returns : goal.returns

@@ -12,7 +12,7 @@ loop-k-init g c =
 
 pub loop-k-preserved : goal.loop-k-preserved
 loop-k-preserved g c =
-    (search rules, every_more _ _ c.loop-k.invariant.1 (rw (c.wide.ensures, c.item.ensures 0)))
+    (search rules, every_more _ _ c.loop-k.invariant.1 (rw (c.wide.ensures, c.number.ensures)))
 
 pub returns : goal.returns
 unfolding all_below

@@ -7,4 +7,4 @@ use Rattle.accept.specs.Tables.{number_at}
 use Rattle.accept.proofs.tables.ascends.Given as goal
 
 abbrev pub invariant-loop-j : goal.invariant-loop-j
-invariant-loop-j g l = (l.j - 1 ≤ l.b - l.a - 1) × (l.ok ≡ every (λ i. ltb (number_at (g.N.Listed.items l.links) (l.a + i)) (number_at (g.N.Listed.items l.links) (l.a + i + 1))) (l.j - 1))
+invariant-loop-j g l = (l.j - 1 - l.a ≤ l.b - l.a - 1) × (l.ok ≡ every (λ i. ltb (number_at (g.N.Listed.items l.links) (l.a + i)) (number_at (g.N.Listed.items l.links) (l.a + i + 1))) (l.j - 1 - l.a))

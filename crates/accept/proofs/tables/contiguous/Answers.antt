@@ -13,10 +13,10 @@ loop-c-init g c =
 
 pub loop-c-preserved : goal.loop-c-preserved
 loop-c-preserved g c =
-    let x = c.wide-first.ensures ∙ c.item.ensures 0 in (
+    let x = c.wide-first.ensures ∙ c.number.ensures in (
       search rules,
       every_more _ _ c.loop-c.invariant.1 (rw (x, c.loop-c.invariant.2)),
-      edge_more (number_at (g.N.Listed.items c.args.firsts)) (number_at (g.N.Listed.items c.args.counts)) c.loop-c.c x (c.wide.ensures ∙ c.item-in-loop-c.ensures 0),
+      edge_more (number_at (g.N.Listed.items c.args.firsts)) (number_at (g.N.Listed.items c.args.counts)) c.loop-c.c x (c.wide.ensures ∙ c.number-in-loop-c.ensures),
     )
 
 pub returns : goal.returns
