@@ -125,7 +125,7 @@ COUNTS = [
         r'fn (wide|short|vec|lesser|copy|same|equal|of_bits|bits_of|hex|decimal|word|glyph|digit|shape_of)\b')),
     (5, 'functions with five parameters or more that travel together', travelling),
     (6, 'structs of arrays with a count beside them', buffers),
-    (7, 'steps chosen by a name, one test each', lambda: grep(r'\bnamed\(')),
+    (7, 'steps chosen by a name, one test each', lambda: grep(r'\bnamed\(|== b"')),
     (8, 'files of answers and of invariants', lambda: glob.glob('crates/*/proofs/**/Answers.antt', recursive=True)
         + glob.glob('crates/*/proofs/**/Invariants.antt', recursive=True)),
     (0, 'places kept, each with its line', lambda: [g for f in FILES for i, l in enumerate(open(f).read().split('\n'), 1)

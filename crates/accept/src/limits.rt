@@ -1,4 +1,4 @@
-// The limits of refusals 1, 2, 3 and 5.
+// The limits within which files, counts, ranges and floats are accepted.
 ghost use Rattle.std.specs.Prelude.{◌≡◌};
 ghost use Rattle.accept.specs.Limits.{count_limits, float_limits};
 

@@ -127,7 +127,8 @@ fn number<N: Listed<u32>>(s: N, k: usize) -> u32
 }
 
 // The same number, as an index or a count.
-// Kept: no `From`, since the library has none from u32 to usize, and `wide` can't be taken for a cast that cuts.
+// Kept: the library has no `From` from u32 to usize, and `as usize` needs brackets before `<`, so that it is
+// no plainer.
 pub fn wide(x: u32) -> usize
     ensures { result ≡ x }
 {
