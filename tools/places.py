@@ -104,6 +104,12 @@ def travelling():
     return [f'{f}:{i}: {n}' for f, i, n in sorted(hit)]
 
 
+def many(least):
+    """Functions with so many parameters or more, methods without their self."""
+    return [f'{f}:{i}: {n}' for f, n, i, s, b in FUNCTIONS
+            if len(re.findall(r'\w+: ', s.split('->')[0])) >= least]
+
+
 def buffers():
     """Structs of arrays with a count beside them."""
     found = []
@@ -124,6 +130,7 @@ COUNTS = [
     (4, 'equality, order, copying, conversion or printing by hand', lambda: grep(
         r'fn (wide|short|vec|lesser|copy|same|equal|of_bits|bits_of|hex|decimal|word|glyph|digit|shape_of)\b')),
     (5, 'functions with five parameters or more that travel together', travelling),
+    (5, 'functions with ten parameters or more', lambda: many(10)),
     (6, 'structs of arrays with a count beside them', buffers),
     (7, 'steps chosen by a name, one test each', lambda: grep(r'\bnamed\(|== b"')),
     (8, 'files of answers and of invariants', lambda: glob.glob('crates/*/proofs/**/Answers.antt', recursive=True)
