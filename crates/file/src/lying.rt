@@ -26,8 +26,12 @@ impl<'a> Listed<u32> for Lying<'a> {
     }
 
     // The first word of entry k.
-    fn item(self, k: usize) -> u32 {
-        word(self.bytes, self.place.from + self.place.step * k)
+    fn item(self, k: usize) -> Option<u32> {
+        if k < self.place.count {
+            Some(word(self.bytes, self.place.from + self.place.step * k))
+        } else {
+            None
+        }
     }
 }
 
@@ -41,10 +45,14 @@ impl<'a> Listed<f32> for Lying<'a> {
     }
 
     // Float k, entry by entry.
-    fn item(self, k: usize) -> f32 {
+    fn item(self, k: usize) -> Option<f32> {
         let width = self.place.width;
-        let entry = self.place.from + self.place.step * (k / width);
-        of_bits(word(self.bytes, entry + k % width))
+        if k < width * self.place.count {
+            let entry = self.place.from + self.place.step * (k / width);
+            Some(of_bits(word(self.bytes, entry + k % width)))
+        } else {
+            None
+        }
     }
 }
 
@@ -53,7 +61,10 @@ pub(crate) fn store<T: Copy, L: Listed<T>>(list: L, out: &mut [T])
     requires { length (L.items list) ≤ length out.old }
     ensures { out.new ≡ L.items list ++ drop (length (L.items list)) out.old }
 {
-    for k in 0..list.count() {
-        out[k] = list.item(k);
+    for (k, place) in out.iter_mut().enumerate() {
+        let Some(x) = list.item(k) else {
+            return;
+        };
+        *place = x;
     }
 }

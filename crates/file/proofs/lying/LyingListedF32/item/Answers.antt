@@ -1,47 +1,43 @@
--- Float k of a column is one of those of its entry, which lies in the file. Assumes nothing.
+-- Float k of a column is one of those of its entry, which lies in the file; past the last there is none. Assumes nothing.
+use mathlib.Core.List.{List}
 use mathlib.Core.Path.{sym, ap, ◌∙◌}
-use Prim.Native.Nat.{◌+◌, ◌*◌, ◌/◌, ◌%◌, ◌<◌}
+use Prim.Native.Nat.{ℕ, ◌+◌, ◌*◌, ◌/◌, ◌%◌, ◌<◌}
 use native.Mathlib.Nat.{mod-lt, div-add-mod, div-lt_iff_lt-mul, mul_comm}
 use native.Mathlib.Omega.{arith}
 use lib.Ieee.{nan}
-use Rattle.std.proofs.lemmas.List.{get_or_default}
+use Rattle.std.specs.Prelude.{Some}
+use Rattle.std.proofs.lemmas.Option.{slice_get-get_or, slice_get_past}
 use Rattle.float.specs.Column.{float_at}
+use Rattle.file.specs.declared.Column.{Column}
 use Rattle.file.specs.Words.{words}
 use Rattle.file.specs.Columns.{floats_of}
+use Rattle.file.specs.Needs.{Inside}
 use Rattle.file.proofs.Entries.{floats_length, float_at_lem}
 use Rattle.file.proofs.lying.LyingListedF32.item.Goals as goal
-use Rattle.file.proofs.lying.LyingListedF32.item.Goals.{Start}
 
 -- the entry, the place in it, and that the word lies in the file
-lies : (c : Start) → let col = c.args.self.place in let k = c.args.k in
-    (k / col.width < col.count) × (k % col.width < col.width) × (col.from + col.step * (k / col.width) + k % col.width < words c.args.self.bytes.now)
-lies c =
-    let s = c.args.self in
-    let col = s.place in
-    let k = c.args.k in
-    let m : k % col.width < col.width = mod-lt k s.inside.some in
-    let h : k / col.width < col.count =
-    (div-lt_iff_lt-mul {k = col.width} {x = k} {y = col.count} s.inside.some).1 (omega (arith, c.requires, floats_length s.bytes.now col, mul_comm col.width col.count)) in
-    (h, m, omega (arith, m, s.inside.each (k / col.width) h))
-
-pub overflow_mul-entry : goal.overflow_mul-entry
-overflow_mul-entry c = omega (arith, (lies (goal.at.overflow_mul-entry c).Start).2, c.ranges)
-
-pub overflow_add-entry : goal.overflow_add-entry
-overflow_add-entry c = omega (arith, (lies (goal.at.overflow_add-entry c).Start).2, c.ranges)
-
-pub overflow_add-entry-2 : goal.overflow_add-entry-2
-overflow_add-entry-2 c = omega (arith, (lies (goal.at.overflow_add-entry-2 c).Start).2, c.ranges)
+lies : {b : List ℕ} (col : Column) (k : ℕ) → Inside b col → k < col.width * col.count
+    → (k / col.width < col.count) × (k % col.width < col.width) × (col.from + col.step * (k / col.width) + k % col.width < words b)
+lies col k inside h =
+    let m : k % col.width < col.width = mod-lt k inside.some in
+    let e : k / col.width < col.count = (div-lt_iff_lt-mul {k = col.width} {x = k} {y = col.count} inside.some).1 (omega (arith, h, mul_comm col.width col.count)) in
+    (e, m, omega (arith, m, inside.each (k / col.width) e))
 
 pub word-requires : goal.word-requires
-word-requires c = (lies (goal.at.word-requires c).Start).2
+word-requires c = (lies c.args.self.place c.args.k c.args.self.inside c.if-k-width.true).2
 
-pub returns : goal.returns
-returns c d =
+pub returns-then-k-width : goal.returns-then-k-width
+returns-then-k-width c =
     let s = c.args.self in
+    let b = s.bytes.now in
     let k = c.args.k in
-    let h = lies (goal.at.returns c).Start in
-    rw (c.of_bits.ensures, c.word.ensures)
-    (sym (float_at_lem s.bytes.now s.place (k / s.place.width) (k % s.place.width) h.0 h.1)
-    ∙ ap (float_at (floats_of s.bytes.now s.place)) (div-add-mod k s.place.width)
-    ∙ get_or_default (floats_of s.bytes.now s.place) k nan d c.requires)
+    let h = lies s.place k s.inside c.if-k-width.true in
+    ap Some (rw (c.of_bits.ensures, c.word.ensures)
+    (sym (float_at_lem b s.place (k / s.place.width) (k % s.place.width) h.0 h.1) ∙ ap (float_at (floats_of b s.place)) (div-add-mod k s.place.width)))
+    ∙ sym (slice_get-get_or (floats_of b s.place) k nan (omega (arith, c.if-k-width.true, floats_length b s.place)))
+
+pub returns-else-k-width : goal.returns-else-k-width
+returns-else-k-width c =
+    let s = c.args.self in
+    let b = s.bytes.now in
+    sym (slice_get_past (floats_of b s.place) c.args.k (omega (arith, c.if-k-width.false, floats_length b s.place)))
