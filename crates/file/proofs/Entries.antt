@@ -1,5 +1,5 @@
 -- The columns of a room file as lists: how long they are, what stands where, and a column that lies in its file. Assumes nothing.
-use mathlib.Core.Bool.{Bool, true, false, and-eq-true_iff}
+use mathlib.Core.Bool.{Bool, true, false, cond, ◌&&◌, and-eq-true_iff}
 use mathlib.Core.List.{List, [], ◌∷◌, ◌++◌, append-nil}
 use mathlib.Core.Path.{◌≡◌, refl, sym, ap, subst, ◌∙◌}
 use Prim.Native.Nat.{ℕ, suc, ◌+◌, ◌*◌, ◌≤◌, ◌<◌}
@@ -24,7 +24,8 @@ use Rattle.file.specs.declared.Counts.{Counts}
 use Rattle.file.specs.Words.{words, word_in, float_in}
 use Rattle.file.specs.Blocks.{counts_in}
 use Rattle.file.specs.Columns.{entry_from, entry_floats, numbers_over, floats_over, numbers_of, floats_of, inside, numbers_read, floats_read}
-use Rattle.file.specs.Needs.{Inside}
+use Rattle.file.specs.Needs.{Inside, put_front}
+use Rattle.std.specs.Prelude.{Some, None}
 
 -- ---- rows
 
@@ -165,6 +166,23 @@ column_within b col lo hi =
     ∙ every_same _ _ col.count (λ i h. every_same _ _ col.width (λ j k. rw (float_at_lem b col i j h k))))
 
 -- ---- a column that was read
+
+-- a column that was found, stored in front of a list, is the column read into it
+pub floats_stored : (b : List ℕ) (col : Column) (l : List Float) → floats_read b col l ≡ put_front (cond (inside b col) (Some (floats_of b col)) None) l
+unfolding floats_read holds
+floats_stored b col l = by (inside b col)
+  where
+    by : (t : Bool) → cond (t && holds (length l) col.count col.width) (floats_over b col l) l ≡ put_front (cond t (Some (floats_of b col)) None) l
+    by true = rw (floats_put b col l, floats_length b col, mul_comm col.width col.count)
+    by false = refl
+
+pub numbers_stored : (b : List ℕ) (col : Column) (l : List ℕ) → numbers_read b col l ≡ put_front (cond (inside b col) (Some (numbers_of b col)) None) l
+unfolding numbers_read
+numbers_stored b col l = by (inside b col)
+  where
+    by : (t : Bool) → cond (t && leb col.count (length l)) (numbers_over b col l) l ≡ put_front (cond t (Some (numbers_of b col)) None) l
+    by true = rw (numbers_put b col l, numbers_length b col)
+    by false = refl
 
 -- a file that has the column, read into a list that holds it
 pub read_floats : (b : List ℕ) (col : Column) (l : List Float) → inside b col ≡ true → holds (length l) col.count col.width ≡ true

@@ -1,5 +1,5 @@
 -- What the functions beneath the public ones ask of each other. Definitions only.
-use Rattle.std.specs.Prelude.{List, ℕ, ◌+◌, ◌<◌, ◌≤◌}
+use Rattle.std.specs.Prelude.{cond, List, ◌++◌, ℕ, ◌+◌, ◌<◌, ◌≤◌, leb, length, drop, Option, Some, None}
 use Rattle.file.specs.declared.Column.{Column}
 use Rattle.file.specs.declared.Counts.{Counts}
 use Rattle.file.specs.Words.{words}
@@ -18,3 +18,8 @@ pub record Inside (b : List ℕ) (col : Column) : Type 0 where
 pub record Ends (b : List ℕ) (c : Counts) : Type 0 where
   pub few : words b ≤ 1099511627776
   pub whole : end_of c ≤ words b
+
+-- a list with others in front, in the place of what stood there, where there are some and the list holds them; else as it was
+abbrev pub put_front : {A : Type 0} → Option (List A) → List A → List A
+put_front None l = l
+put_front (Some items) l = cond (leb (length items) (length l)) (items ++ drop (length items) l) l

@@ -1,25 +1,26 @@
 // The columns of a file, read block by block. A column is read where the file, of at most 268,435,456
 // bytes, has all its entries and the slice holds them; otherwise the slice stays as it was.
-ghost use Rattle.std.specs.Prelude.{◌≡◌};
+ghost use Rattle.std.specs.Prelude.{◌≡◌, cond, Some, None};
+ghost use Rattle.std.specs.Option.{option_map};
 ghost use Rattle.file.specs.Blocks.{counts_in, points, normals, albedos, areas, directs, cluster_areas, firsts, member_counts, members};
 ghost use Rattle.file.specs.Blocks.{row_starts, link_clusters, link_weights, probe_points, probe_normals};
-ghost use Rattle.file.specs.Columns.{numbers_read, floats_read};
+ghost use Rattle.file.specs.Columns.{numbers_read, floats_read, numbers_of, floats_of};
 ghost use Rattle.file.specs.Columns.{inside as Columns·inside};
 ghost use Rattle.file.specs.Needs.{Inside};
 
 use crate::lying::{Lying, store};
 use crate::{Column, RoomFile};
-use accept::holds;
 use accept::limits::MAX_FILE;
 
+#[tactic(auto, using(crate::proofs::Entries::floats_stored, crate::proofs::Entries::numbers_stored))]
 impl RoomFile<'_> {
     // Reads the points and normals of the surfels.
     pub fn read_points(&self, p: &mut [f32], facing: &mut [f32])
         ensures p_after { p.new ≡ floats_read self.now (points (counts_in self.now)) p.old }
         ensures facing_after { facing.new ≡ floats_read self.now (normals (counts_in self.now)) facing.old }
     {
-        self.read_floats(self.counts.points(), p);
-        self.read_floats(self.counts.normals(), facing);
+        store(self.found(self.counts.points()), p);
+        store(self.found(self.counts.normals()), facing);
     }
 
     // Reads their albedo, area and direct light.
@@ -28,9 +29,9 @@ impl RoomFile<'_> {
         ensures area_after { area.new ≡ floats_read self.now (areas (counts_in self.now)) area.old }
         ensures direct_after { direct.new ≡ floats_read self.now (directs (counts_in self.now)) direct.old }
     {
-        self.read_floats(self.counts.albedos(), albedo);
-        self.read_floats(self.counts.areas(), area);
-        self.read_floats(self.counts.directs(), direct);
+        store(self.found(self.counts.albedos()), albedo);
+        store(self.found(self.counts.areas()), area);
+        store(self.found(self.counts.directs()), direct);
     }
 
     // Reads the clusters and their members.
@@ -46,10 +47,10 @@ impl RoomFile<'_> {
         ensures count_after { count.new ≡ numbers_read self.now (member_counts (counts_in self.now)) count.old }
         ensures member_after { member.new ≡ numbers_read self.now (members (counts_in self.now)) member.old }
     {
-        self.read_floats(self.counts.cluster_areas(), area);
-        self.read_numbers(self.counts.firsts(), first);
-        self.read_numbers(self.counts.member_counts(), count);
-        self.read_numbers(self.counts.members(), member);
+        store(self.found(self.counts.cluster_areas()), area);
+        store(self.found(self.counts.firsts()), first);
+        store(self.found(self.counts.member_counts()), count);
+        store(self.found(self.counts.members()), member);
     }
 
     // Reads the rows.
@@ -58,9 +59,9 @@ impl RoomFile<'_> {
         ensures cluster_after { cluster.new ≡ numbers_read self.now (link_clusters (counts_in self.now)) cluster.old }
         ensures weight_after { weight.new ≡ floats_read self.now (link_weights (counts_in self.now)) weight.old }
     {
-        self.read_numbers(self.counts.row_starts(), starts);
-        self.read_numbers(self.counts.link_clusters(), cluster);
-        self.read_floats(self.counts.link_weights(), weight);
+        store(self.found(self.counts.row_starts()), starts);
+        store(self.found(self.counts.link_clusters()), cluster);
+        store(self.found(self.counts.link_weights()), weight);
     }
 
     // Reads the probes.
@@ -68,26 +69,19 @@ impl RoomFile<'_> {
         ensures p_after { p.new ≡ floats_read self.now (probe_points (counts_in self.now)) p.old }
         ensures facing_after { facing.new ≡ floats_read self.now (probe_normals (counts_in self.now)) facing.old }
     {
-        self.read_floats(self.counts.probe_points(), p);
-        self.read_floats(self.counts.probe_normals(), facing);
+        store(self.found(self.counts.probe_points()), p);
+        store(self.found(self.counts.probe_normals()), facing);
     }
 
-    // Puts the floats of a column at the front of out, where the column lies in the file and out
-    // holds them; otherwise out stays as it was.
-    fn read_floats(&self, place: Column, out: &mut [f32])
-        ensures { out.new ≡ floats_read self.now place out.old }
+    // The column that stands there, where it lies in the file.
+    fn found(&self, place: Column) -> Option<Lying<'_>>
+        ensures numbers { option_map (λ l. numbers_of l.bytes.now l.place) result ≡ cond (Columns·inside self.now place) (Some (numbers_of self.now place)) None }
+        ensures floats { option_map (λ l. floats_of l.bytes.now l.place) result ≡ cond (Columns·inside self.now place) (Some (floats_of self.now place)) None }
     {
-        if self.has(place) & holds(out.len(), place.count, place.width) {
-            store::<f32, Lying>(self.column(place), out);
-        }
-    }
-
-    // Puts the numbers of a column at the front of out, likewise.
-    fn read_numbers(&self, place: Column, out: &mut [u32])
-        ensures { out.new ≡ numbers_read self.now place out.old }
-    {
-        if self.has(place) & (place.count <= out.len()) {
-            store::<u32, Lying>(self.column(place), out);
+        if self.has(place) {
+            Some(self.column(place))
+        } else {
+            None
         }
     }
 

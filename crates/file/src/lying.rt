@@ -1,7 +1,8 @@
 // Columns that lie in a file: what the checks of numbers and floats read, and how a column is read
 // into a slice.
-ghost use Rattle.std.specs.Prelude.{◌≡◌, ◌++◌, ◌≤◌, length, drop};
-ghost use Rattle.file.specs.Needs.{Inside};
+ghost use Rattle.std.specs.Prelude.{◌≡◌};
+ghost use Rattle.std.specs.Option.{option_map};
+ghost use Rattle.file.specs.Needs.{Inside, put_front};
 
 use crate::Column;
 use crate::words::word;
@@ -56,11 +57,17 @@ impl<'a> Listed<f32> for Lying<'a> {
     }
 }
 
-// Puts the items of a list at the front of out.
-pub(crate) fn store<T: Copy, L: Listed<T>>(list: L, out: &mut [T])
-    requires { length (L.items list) ≤ length out.old }
-    ensures { out.new ≡ L.items list ++ drop (length (L.items list)) out.old }
+// Puts the items of a list at the front of out, where there is one and out holds them; otherwise out
+// stays as it was.
+pub(crate) fn store<T: Copy, L: Listed<T>>(found: Option<L>, out: &mut [T])
+    ensures { out.new ≡ put_front (option_map L.items found) out.old }
 {
+    let Some(list) = found else {
+        return;
+    };
+    if out.len() < list.count() {
+        return;
+    }
     for (k, place) in out.iter_mut().enumerate() {
         let Some(x) = list.item(k) else {
             return;
