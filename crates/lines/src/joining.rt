@@ -43,7 +43,7 @@ impl Line {
         requires { length self + length s.now ≤ 64 }
         ensures { result ≡ self ++ s.now }
     {
-        let _ = self.bytes.try_extend_from_slice(s);
+        self.bytes.try_extend_from_slice(s).unwrap();
         self
     }
 
