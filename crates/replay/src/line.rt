@@ -78,7 +78,7 @@ fn words_of(s: &[u8]) -> Option<Words> {
     }
     let mut words = Words::none();
     for word in given.chunks(9) {
-        words = words.with(text::word(word.strip_prefix(b" ")?, 0)?);
+        words = words.with(text::word(word.strip_prefix(b" ")?)?);
     }
     Some(words)
 }

@@ -49,6 +49,15 @@ read_back pre post w h =
     rw (append_assoc pre (hex_digits w) post, le-leb (length pre + 8) (length (pre ++ (hex_digits w ++ post))) l, drop-append_seam pre (hex_digits w ++ post), take_at (hex_digits w) post 8 (length_hex w))
     (ap (spelled 0) (sym (append-nil (hex_digits w))) ∙ read_digits 8 0 w [] (omega arith) ∙ ap Some (omega arith))
 
+-- what is read at a place is what is read at the start of the text from there on
+pub word_from : (s : List ℕ) (at : ℕ) → word_at s at ≡ word_at (drop at s) 0
+word_from s at =
+    ap (λ (t : Bool). cond t (spelled 0 (take 8 (drop at s))) None) (by (leb (at + 8) (length s)) refl)
+  where
+    by : (t : Bool) → leb (at + 8) (length s) ≡ t → leb (at + 8) (length s) ≡ leb 8 (length (drop at s))
+    by true e = let h = leb-true (at + 8) (length s) e in rw e (sym (le-leb 8 (length (drop at s)) (simp length-drop (omega (arith, h)))))
+    by false e = let h = leb-false (at + 8) (length s) e in rw e (sym (lt-leb 8 (length (drop at s)) (simp length-drop (omega (arith, h)))))
+
 -- a character that has a digit's value is that digit's
 glyph_digit : (b d : ℕ) → digit_of b ≡ Some d → glyph d ≡ b
 glyph_digit b d h = by (leb 48 b && leb b 57) (leb 65 b && leb b 70) refl refl h

@@ -7,8 +7,8 @@ use native.Mathlib.Omega.{arith}
 use native.Mathlib.Nat.{pow-suc, pow-le-pow_right}
 use native.Mathlib.Numerals.{add-one}
 use lib.Dec.{leb}
-use lib.ListN.{length, take, drop, get_or, length-take, length-drop}
-use lib.Seq.{drop-cons, get_or-take, get_or-drop}
+use lib.ListN.{length, drop, get_or}
+use lib.Seq.{drop-cons}
 use borrow.Author.Tests.{leb-true}
 use Rattle.std.specs.Prelude.{Option, Some, None}
 use Rattle.text.specs.Words.{digit_of, spelled}
@@ -33,23 +33,22 @@ room n d i h hd hi =
     let m : 16 ^ (i + 1) ≤ 16 ^ 8 = pow-le-pow_right {n = 16} (omega arith) {i = i + 1} {j = 8} (omega arith) in
     (omega arith, omega arith)
 
--- the loop has read the first i of the eight digits at place `at` of s, which spell n; `whole` is what all eight spell
-abbrev pub ReadTo : List ℕ → ℕ → Option ℕ → ℕ → ℕ → Type 0
-ReadTo s at whole n i = (i ≤ 8) × (n < 16 ^ i) × (spelled n (drop i (take 8 (drop at s))) ≡ whole)
+-- the loop has read the first i of the eight digits of s, which spell n; `whole` is what all eight spell
+abbrev pub ReadTo : List ℕ → Option ℕ → ℕ → ℕ → Type 0
+ReadTo s whole n i = (length s ≡ 8) × (n < 16 ^ i) × (spelled n (drop i s) ≡ whole)
 
-module _ (s : List ℕ) (at i n : ℕ) (whole : Option ℕ) (h : at + 8 ≤ length s) (hi : i < 8) (so : ReadTo s at whole n i) where
+module _ (s : List ℕ) (i n : ℕ) (whole : Option ℕ) (hi : i < 8) (so : ReadTo s whole n i) where
   -- what is left starts with the i-th digit
-  next : drop i (take 8 (drop at s)) ≡ get_or s (at + i) 0 ∷ drop (i + 1) (take 8 (drop at s))
-  next =
-      rw (drop-cons (take 8 (drop at s)) i 0 (simp (length-take, length-drop) (omega arith)), get_or-take 8 (drop at s) i 0 hi, get_or-drop at s i 0, add-one i)
+  next : drop i s ≡ get_or s i 0 ∷ drop (i + 1) s
+  next = rw (drop-cons s i 0 (omega (arith, so.0)), add-one i)
 
   -- a turn that meets a digit
-  pub digit_read : (d : ℕ) → Some d ≡ digit_of (get_or s (at + i) 0) → ReadTo s at whole (n * 16 + d) (i + 1)
+  pub digit_read : (d : ℕ) → Some d ≡ digit_of (get_or s i 0) → ReadTo s whole (n * 16 + d) (i + 1)
   unfolding spelled
   digit_read d e =
-      (omega arith, (room n d i so.1 (digit_below (get_or s (at + i) 0) d (sym e)) hi).0, rw (next, ← e) at so.2)
+      (so.0, (room n d i so.1 (digit_below (get_or s i 0) d (sym e)) hi).0, rw (next, ← e) at so.2)
 
   -- a turn that meets another byte
-  pub none_read : None ≡ digit_of (get_or s (at + i) 0) → None ≡ whole
+  pub none_read : None ≡ digit_of (get_or s i 0) → None ≡ whole
   unfolding spelled
   none_read e = rw (next, ← e) at so.2

@@ -1,6 +1,7 @@
 // A u32 as text.
 //
-// Kept: digits are put into lent bytes, since `Display` writes to what may fail, and this can't.
+// Kept: digits by hand, since `Display` writes to what may fail or to a `String` on the heap, and
+// `itoa` would be one more crate whose statements are trusted.
 ghost use Rattle.std.specs.Prelude.{◌≤◌, ◌<◌, ◌≡◌, ◌++◌, length, drop};
 ghost use Rattle.text.specs.Digits.{last_digits, hex_digits, decimal_digits};
 ghost use Rattle.text.specs.Digits.{glyph as Digits·glyph};
@@ -39,6 +40,8 @@ fn places(n: u32) -> usize
 }
 
 // Puts the last k digits of n in base at the start of out.
+// Kept: places by their numbers. Tried with `iter_mut().rev()`: its invariant has no name for what
+// out holds, so what the function ensures stays open.
 fn spell(n: u32, base: u32, k: usize, out: &mut [u8])
     requires { (0 < base) × (base ≤ 16) × (k ≤ length out.old) }
     ensures { out.new ≡ last_digits base k n ++ drop k out.old }

@@ -3,5 +3,5 @@ use Rattle.text.specs.Words.{word_at}
 use Rattle.text.proofs.Words.{ReadTo}
 use Rattle.text.proofs.reading.word.Given as goal
 
-abbrev pub invariant-loop-i : goal.invariant-loop-i
-invariant-loop-i l = ReadTo l.s l.at (word_at l.s l.at) l.n l.i
+abbrev pub invariant-loop-b : goal.invariant-loop-b
+invariant-loop-b l = ReadTo l.b-items (word_at l.s 0) l.n l.b-index
