@@ -39,17 +39,17 @@ impl RoomFile<'_> {
         ensures { result ≡ formed self.now most }
     {
         let bytes = self.bytes;
-        let c = self.counts;
+        let c = self.counts();
         let end = 4 * c.end_of();
         (MIN_FILE <= bytes.len())
             & (bytes.len() <= most)
             & (word_at(bytes, 0) == 1)
-            & (wide(word_at(bytes, 7)) == 4 * c.surfels_from())
-            & (wide(word_at(bytes, 8)) == 4 * c.clusters_from())
-            & (wide(word_at(bytes, 9)) == 4 * c.members_from())
-            & (wide(word_at(bytes, 10)) == 4 * c.starts_from())
-            & (wide(word_at(bytes, 11)) == 4 * c.links_from())
-            & (wide(word_at(bytes, 12)) == 4 * c.probes_from())
+            & (wide(word_at(bytes, 7)) == 4 * c.surfel_block().from)
+            & (wide(word_at(bytes, 8)) == 4 * c.cluster_block().from)
+            & (wide(word_at(bytes, 9)) == 4 * c.member_block().from)
+            & (wide(word_at(bytes, 10)) == 4 * c.start_block().from)
+            & (wide(word_at(bytes, 11)) == 4 * c.link_block().from)
+            & (wide(word_at(bytes, 12)) == 4 * c.box_block().from)
             & (wide(word_at(bytes, 13)) == end)
             & (bytes.len() == end)
             & (word_at(bytes, 14) == 0)

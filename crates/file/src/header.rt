@@ -1,10 +1,10 @@
 // The header of a file, and where its blocks begin.
-ghost use Rattle.std.specs.Prelude.{◌≡◌, ◌<◌, ◌^◌};
-ghost use Rattle.file.specs.Blocks.{counts_in, surfels_from, clusters_from, members_from, starts_from, links_from, probes_from, end_of};
+ghost use Rattle.std.specs.Prelude.{◌≡◌, ◌+◌, ◌*◌, ◌<◌, ◌^◌};
+ghost use Rattle.file.specs.Blocks.{counts_in, surfels_from, clusters_from, members_from, starts_from, links_from, probes_from, end_of, column_of};
 ghost use Rattle.file.specs.Rooms.{box_of_file};
 
 use crate::words::{float_at, vec_at, word_at};
-use crate::{Counts, ProbeBox, RoomFile};
+use crate::{Column, Counts, ProbeBox, RoomFile};
 use accept::wide;
 use grid::Space;
 
@@ -37,7 +37,7 @@ impl<'a> RoomFile<'a> {
     pub fn probe_box(&self) -> ProbeBox
         ensures { result ≡ box_of_file self.now }
     {
-        let k = self.counts.probes_from();
+        let k = self.counts().box_block().from;
         ProbeBox {
             lo: vec_at(self.bytes, k),
             hi: vec_at(self.bytes, k + 3),
@@ -60,59 +60,119 @@ impl ProbeBox {
     }
 }
 
+// A block of a file, in words: `count` entries of `step` words each, the first from `from` on.
+#[derive(Clone, Copy)]
+pub(crate) struct Block {
+    pub(crate) from: usize,
+    step: usize,
+    count: usize,
+}
+
+impl Block {
+    // Where it ends.
+    fn end(self) -> usize
+        requires { self.from + self.step * self.count < 2 ^ 64 }
+        ensures { result ≡ self.from + self.step * self.count }
+    {
+        self.from + self.step * self.count
+    }
+
+    // Of each entry `width` words, from its word `at` on.
+    pub(crate) fn column(self, at: usize, width: usize) -> Column
+        requires { self.from + at < 2 ^ 64 }
+        ensures { result ≡ column_of (self.from + at) self.step width self.count }
+    {
+        Column {
+            from: self.from + at,
+            step: self.step,
+            width,
+            count: self.count,
+        }
+    }
+}
+
 impl Counts {
-    // Where the surfels begin, in words.
-    pub(crate) fn surfels_from(self) -> usize
-        ensures { result ≡ surfels_from }
+    // The surfels, after the header.
+    pub(crate) fn surfel_block(self) -> Block
+        ensures { result ≡ record { from = surfels_from; step = 13; count = self.surfels } }
     {
-        16
+        Block {
+            from: 16,
+            step: 13,
+            count: wide(self.surfels),
+        }
     }
 
-    // Where the clusters begin.
-    pub(crate) fn clusters_from(self) -> usize
-        ensures value { result ≡ clusters_from self }
-        ensures fits { result < 2 ^ 37 }
+    // The clusters.
+    pub(crate) fn cluster_block(self) -> Block
+        ensures { result ≡ record { from = clusters_from self; step = 3; count = self.clusters } }
     {
-        self.surfels_from() + 13 * wide(self.surfels)
+        Block {
+            from: self.surfel_block().end(),
+            step: 3,
+            count: wide(self.clusters),
+        }
     }
 
-    // Where the members begin.
-    pub(crate) fn members_from(self) -> usize
-        ensures value { result ≡ members_from self }
-        ensures fits { result < 2 ^ 37 }
+    // The members.
+    pub(crate) fn member_block(self) -> Block
+        ensures { result ≡ record { from = members_from self; step = 1; count = self.members } }
     {
-        self.clusters_from() + 3 * wide(self.clusters)
+        Block {
+            from: self.cluster_block().end(),
+            step: 1,
+            count: wide(self.members),
+        }
     }
 
-    // Where the row starts begin.
-    pub(crate) fn starts_from(self) -> usize
-        ensures value { result ≡ starts_from self }
-        ensures fits { result < 2 ^ 37 }
+    // The row starts, one more than surfels.
+    pub(crate) fn start_block(self) -> Block
+        ensures { result ≡ record { from = starts_from self; step = 1; count = self.surfels + 1 } }
     {
-        self.members_from() + wide(self.members)
+        Block {
+            from: self.member_block().end(),
+            step: 1,
+            count: wide(self.surfels) + 1,
+        }
     }
 
-    // Where the links begin.
-    pub(crate) fn links_from(self) -> usize
-        ensures value { result ≡ links_from self }
-        ensures fits { result < 2 ^ 37 }
+    // The links.
+    pub(crate) fn link_block(self) -> Block
+        ensures { result ≡ record { from = links_from self; step = 2; count = self.links } }
     {
-        self.starts_from() + (wide(self.surfels) + 1)
+        Block {
+            from: self.start_block().end(),
+            step: 2,
+            count: wide(self.links),
+        }
     }
 
-    // Where the box and the probes begin.
-    pub(crate) fn probes_from(self) -> usize
-        ensures value { result ≡ probes_from self }
-        ensures fits { result < 2 ^ 37 }
+    // The box, the side of a cell and the radius: one entry of eight words.
+    pub(crate) fn box_block(self) -> Block
+        ensures { result ≡ record { from = probes_from self; step = 8; count = 1 } }
     {
-        self.links_from() + 2 * wide(self.links)
+        Block {
+            from: self.link_block().end(),
+            step: 8,
+            count: 1,
+        }
+    }
+
+    // The probes.
+    pub(crate) fn probe_block(self) -> Block
+        ensures { result ≡ record { from = probes_from self + 8; step = 6; count = self.probes } }
+    {
+        Block {
+            from: self.box_block().end(),
+            step: 6,
+            count: wide(self.probes),
+        }
     }
 
     // Where the file ends.
     pub(crate) fn end_of(self) -> usize
-        ensures value { result ≡ end_of self }
-        ensures fits { result < 2 ^ 37 }
+        ensures { result ≡ end_of self }
     {
-        self.probes_from() + 8 + 6 * wide(self.probes)
+        self.probe_block().end()
     }
 }
