@@ -6,6 +6,7 @@ ghost use Rattle.file.specs.Columns.{floats_of};
 ghost use Rattle.file.specs.Checks.{formed, few_enough, boxed, floats_pass, numbers_pass, check};
 ghost use Rattle.file.specs.Needs.{Ends, Inside};
 
+use crate::lying::Lying;
 use crate::words::word_at;
 use crate::{Column, Counts, ProbeBox, RoomFile};
 use accept::limits::{
@@ -93,6 +94,18 @@ impl RoomFile<'_> {
         let ranges = ranges_contiguous(firsts, counts, wide(c.clusters), wide(c.members));
         let members = self.column(c.members());
         rows & linked & ranges & numbers_below(members, wide(c.members), wide(c.surfels))
+    }
+
+    // The column that stands there.
+    fn column(&self, place: Column) -> Lying<'_>
+        requires { Inside self.now place }
+        ensures bytes { result.bytes.now ≡ self.now }
+        ensures place { result.place ≡ place }
+    {
+        Lying {
+            bytes: self.bytes,
+            place,
+        }
     }
 
     // Whether each float of a column is from lo to hi.

@@ -11,6 +11,7 @@ mod header;
 mod lying;
 mod words;
 
+pub use blocks::Blocks;
 use std::marker::Model;
 use vector::Vec3;
 
