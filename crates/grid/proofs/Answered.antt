@@ -9,14 +9,11 @@ use lib.ListN.{length}
 use lib.Seq.{sets}
 use Rattle.std.specs.Prelude.{Ok, Err, Result}
 use Rattle.vector.specs.declared.Vec3.{Vec3}
-use Rattle.accept.specs.Limits.{max_reach}
-use Rattle.accept.specs.Ranges.{point}
 use Rattle.accept.specs.Refusal.{checked}
-use Rattle.accept.specs.Tables.{at_most}
 use Rattle.accept.specs.declared.refusal.Refusal.{Refusal}
 use Rattle.accept.specs.declared.refusal.Refusal.TheVariants.{Length}
 use Rattle.accept.proofs.Refused.{checked_past, checked_before}
-use Rattle.grid.specs.Answers.{near_answer}
+use Rattle.grid.specs.Answers.{near_own, near_answer}
 use Rattle.grid.specs.Lent.{Grid}
 use Rattle.grid.specs.Visiting.{visited}
 use Rattle.grid.specs.Checks.{list_fits, tests, check}
@@ -24,17 +21,17 @@ use Rattle.grid.proofs.Nearby.{accepted}
 
 module _ (g : Grid) (p : Vec3) (reach : ℕ) (list : List ℕ) where
   abbrev outcome : Result Unit Refusal
-  outcome = check g true (at_most reach max_reach) true (point p)
+  outcome = check g (near_own p reach)
 
   -- the tests before that of the list, and that of the list
   abbrev before : List (Refusal × Bool)
-  before = tests g true (at_most reach max_reach) true (point p)
+  before = tests g (near_own p reach)
 
   abbrev last : List (Refusal × Bool)
   last = (Length, leb (length (visited g p reach)) (length list)) ∷ []
 
   past : outcome ≡ Ok tt → checked (before ++ last) ≡ checked last
-  past e = checked_past before last (accepted g true (at_most reach max_reach) true (point p) e)
+  past e = checked_past before last (accepted g (near_own p reach) e)
 
   pub near_refused : {refusal : Refusal} → outcome ≡ Err refusal → (Err refusal, list) ≡ near_answer g p reach list
   unfolding near_answer check
@@ -51,4 +48,4 @@ module _ (g : Grid) (p : Vec3) (reach : ℕ) (list : List ℕ) where
 
   -- the starts and the items of a call that is not refused fit together
   pub near_fits : outcome ≡ Ok tt → list_fits g ≡ true
-  near_fits e = (accepted g true (at_most reach max_reach) true (point p) e).1.1.1.1.0
+  near_fits e = (accepted g (near_own p reach) e).1.1.1.1.0

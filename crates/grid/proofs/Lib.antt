@@ -5,4 +5,5 @@ pub mod Around
 pub mod Slices
 pub mod Nearby
 pub mod Answered
+pub mod Handed
 pub mod Built

@@ -1,5 +1,5 @@
 -- The cells near a point as rows of cells that follow one another: they lie in the grid, and what is visited are their numbers. Assumes nothing.
-use mathlib.Core.Bool.{Bool, true, and-eq-true_iff}
+use mathlib.Core.Bool.{true, and-eq-true_iff}
 use Rattle.std.specs.Prelude.{Ok}
 use Rattle.std.specs.List.{All, concat}
 use mathlib.Core.List.{List}
@@ -19,6 +19,7 @@ use Rattle.accept.specs.Tables.{number_at, numbers_below, starts_monotone}
 use Rattle.accept.proofs.Bounded.{numbers_below_at}
 use Rattle.accept.proofs.Refused.{AllPassed, none_refused}
 use Rattle.accept.proofs.Starts.{Monotone, not_falling, starts_monotone_lem}
+use Rattle.grid.specs.declared.checks.Own.{Own}
 use Rattle.grid.specs.declared.Cell.{Cell}
 use Rattle.grid.specs.declared.Dims.{Dims}
 use Rattle.grid.specs.Lent.{Grid, cells_of}
@@ -37,9 +38,9 @@ all_rows P f zero h = All-nil P
 all_rows P f (suc n) h = All-append P (rows f n) (f n) (all_rows P f n (λ i k. h i (omega arith))) (h n (omega arith))
 
 -- a call that is not refused passed the tests
-pub accepted : (g : Grid) (few ranged lent floats : Bool) → check g few ranged lent floats ≡ Ok tt → AllPassed (tests g few ranged lent floats)
+pub accepted : (g : Grid) (own : Own) → check g own ≡ Ok tt → AllPassed (tests g own)
 unfolding check
-accepted g few ranged lent floats h = none_refused (tests g few ranged lent floats) h
+accepted g own h = none_refused (tests g own) h
 
 module _ (g : Grid) (p : Vec3) (reach : ℕ) (h : list_fits g ≡ true) where
   abbrev d : Dims

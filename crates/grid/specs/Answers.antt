@@ -9,6 +9,7 @@ use Rattle.accept.specs.Refusal.{checked, outcome}
 use Rattle.accept.specs.Tables.{at_most}
 use Rattle.accept.specs.declared.refusal.Refusal.{Refusal}
 use Rattle.accept.specs.declared.refusal.Refusal.TheVariants.{Length}
+use Rattle.grid.specs.declared.checks.Own.{Own}
 use Rattle.grid.specs.declared.Dims.{Dims}
 use Rattle.grid.specs.Lent.{Grid}
 use Rattle.grid.specs.Visiting.{visited}
@@ -24,9 +25,13 @@ grid_build_answer n p lo hi side starts items =
     (Ok d, grid_starts n p lo (1f /f side) d starts, grid_items n p lo (1f /f side) d items)
     (check_build n p lo hi side (length starts) (length items))
 
+-- what the tests of a reach and a point say
+abbrev pub near_own : Vec3 → ℕ → Own
+near_own p reach = record { few = true; ranged = at_most reach max_reach; lent = true; floats = point p }
+
 -- the numbers near p: the answer and the list; that the list holds them is tested last
 unfoldable pub near_answer : Grid → Vec3 → ℕ → List ℕ → Result ℕ Refusal × List ℕ
 near_answer g p reach list =
     let v = visited g p reach in
     outcome (λ refusal. (Err refusal, list)) (Ok (length v), sets list 0 v)
-    (checked (tests g true (at_most reach max_reach) true (point p) ++ ((Length, leb (length v) (length list)) ∷ [])))
+    (checked (tests g (near_own p reach) ++ ((Length, leb (length v) (length list)) ∷ [])))

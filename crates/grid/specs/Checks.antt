@@ -8,6 +8,7 @@ use Rattle.accept.specs.Refusal.{checked}
 use Rattle.accept.specs.Tables.{at_most, column, numbers_below, starts_monotone}
 use Rattle.accept.specs.declared.refusal.Refusal.{Refusal}
 use Rattle.accept.specs.declared.refusal.Refusal.TheVariants as Why
+use Rattle.grid.specs.declared.checks.Own.{Own}
 use Rattle.grid.specs.Lent.{Grid, cells_of}
 use Rattle.grid.specs.Cells.{dims_of, cells}
 
@@ -23,19 +24,19 @@ tables_hold g = ltb (cells_of g) (length g.starts) && leb g.n (length g.items)
 unfoldable pub list_fits : Grid → Bool
 list_fits g = starts_monotone g.starts (cells_of g) g.n && numbers_below g.items g.n g.n
 
--- the tests in their order, each with its refusal; those of the call's own numbers are few (2), ranged (3), lent (4) and floats (5)
-abbrev pub tests : Grid → Bool → Bool → Bool → Bool → List (Refusal × Bool)
-tests g few ranged lent floats =
-    (Why.Count, at_most g.n max_surfels && few)
-    ∷ (Why.Range, sized g.lo g.hi g.side && ranged)
-    ∷ (Why.Length, tables_hold g && lent)
-    ∷ (Why.Float, floats)
+-- the tests in their order, each with its refusal; those of what the call brings besides the grid are few (2), ranged (3), lent (4) and floats (5)
+abbrev pub tests : Grid → Own → List (Refusal × Bool)
+tests g own =
+    (Why.Count, at_most g.n max_surfels && own.few)
+    ∷ (Why.Range, sized g.lo g.hi g.side && own.ranged)
+    ∷ (Why.Length, tables_hold g && own.lent)
+    ∷ (Why.Float, own.floats)
     ∷ (Why.Numbers, list_fits g)
     ∷ []
 
 -- what refuses a call on this grid
-unfoldable pub check : Grid → Bool → Bool → Bool → Bool → Result Unit Refusal
-check g few ranged lent floats = checked (tests g few ranged lent floats)
+unfoldable pub check : Grid → Own → Result Unit Refusal
+check g own = checked (tests g own)
 
 -- the tests of n points that are put into a grid, whose slices have these lengths
 abbrev pub build_tests : ℕ → List Float → Vec3 → Vec3 → Float → ℕ → ℕ → List (Refusal × Bool)

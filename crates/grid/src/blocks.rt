@@ -35,7 +35,7 @@ impl Space {
 fn first_near(c: usize, reach: usize) -> usize
     ensures { result ≡ first_near c reach }
 {
-    if reach < c { c - reach } else { 0 }
+    c.saturating_sub(reach)
 }
 
 // How many cells of an axis of dim cells are within reach of c.

@@ -1,28 +1,65 @@
 // Whether a grid is accepted, and why a call on it is refused.
-ghost use Rattle.std.specs.Prelude.{◌≡◌};
-ghost use Rattle.grid.specs.Checks.{sized, check, check_build};
+ghost use Rattle.std.specs.Prelude.{◌≡◌, Ok, Err};
+ghost use Rattle.accept.specs.Refusal.{outcome};
+ghost use Rattle.grid.specs.Checks.{sized, tables_hold, list_fits, check, check_build};
 
+use crate::walking::Fitted;
 use crate::{Grid, Space};
 use accept::limits::{MAX_CELL, MAX_SURFELS, MIN_CELL};
 use accept::{
     Refusal, at_most, bounds, coordinates, holds, numbers_below, require, starts_monotone, within,
 };
 
-// What refuses a call on this grid. The call's own tests of 2, 3, 4 and 5 are handed in.
-// Kept: flags, since the calls' tests are made between the grid's, in the order of the numbers.
-#[tactic(auto, unfolding(crate::specs::Checks::check, crate::specs::Checks::tables_hold, crate::specs::Checks::list_fits, accept::specs::Refusal::checked))]
-pub fn check(grid: &Grid, few: bool, ranged: bool, lent: bool, floats: bool) -> Result<(), Refusal>
-    ensures { result ≡ check grid.now few ranged lent floats }
+// The tests of what a call brings besides its grid: whether its counts and its numbers are in their
+// range, its slices hold their need, and its floats are in their range. They are made between the
+// grid's, in the order of the refusals.
+#[derive(Clone, Copy)]
+pub struct Own {
+    pub few: bool,
+    pub ranged: bool,
+    pub lent: bool,
+    pub floats: bool,
+}
+
+impl Own {
+    // Those of a call that brings nothing.
+    pub const PASSED: Own = Own {
+        few: true,
+        ranged: true,
+        lent: true,
+        floats: true,
+    };
+}
+
+// The grid of a call, whose starts and items fit together, or why the call is refused.
+#[tactic(auto, unfolding(crate::specs::Checks::check, accept::specs::Refusal::checked))]
+pub fn check<'a>(grid: &'a Grid<'a>, own: Own) -> Result<Fitted<'a>, Refusal>
+    ensures { result ≡ outcome Err (Ok grid.now) (check grid.now own) }
 {
-    let n = grid.n;
-    let cells = grid.space.cells();
-    let tables = (cells < grid.starts.len()) & (n <= grid.items.len());
-    let listed = starts_monotone(grid.starts, cells, n) & numbers_below(grid.items, n, n);
-    require(at_most(n, MAX_SURFELS) & few, Refusal::Count)?;
-    require(grid.space.sized() & ranged, Refusal::Range)?;
-    require(tables & lent, Refusal::Length)?;
-    require(floats, Refusal::Float)?;
-    require(listed, Refusal::Numbers)
+    require(at_most(grid.n, MAX_SURFELS) & own.few, Refusal::Count)?;
+    require(grid.space.sized() & own.ranged, Refusal::Range)?;
+    require(grid.tables_hold() & own.lent, Refusal::Length)?;
+    require(own.floats, Refusal::Float)?;
+    Fitted::new(grid).ok_or(Refusal::Numbers)
+}
+
+impl Grid<'_> {
+    // Whether there is a start for each cell and one more, and a number for each point.
+    #[tactic(auto, unfolding(crate::specs::Checks::tables_hold))]
+    fn tables_hold(&self) -> bool
+        ensures { result ≡ tables_hold self.now }
+    {
+        (self.space.cells() < self.starts.len()) & (self.n <= self.items.len())
+    }
+
+    // Whether the starts rise from 0 to the count of points, and the items number points.
+    #[tactic(auto, unfolding(crate::specs::Checks::list_fits))]
+    pub(crate) fn list_fits(&self) -> bool
+        ensures { result ≡ list_fits self.now }
+    {
+        starts_monotone(self.starts, self.space.cells(), self.n)
+            & numbers_below(self.items, self.n, self.n)
+    }
 }
 
 // What refuses to build a grid of these points in slices of these lengths.
@@ -36,10 +73,12 @@ pub fn check_build(
 ) -> Result<(), Refusal>
     ensures { result ≡ check_build n p.now space.lo space.hi space.cell starts items }
 {
-    let lent = holds(p.len(), n, 3) & (space.cells() < starts) & (n <= items);
     require(at_most(n, MAX_SURFELS), Refusal::Count)?;
     require(space.sized(), Refusal::Range)?;
-    require(lent, Refusal::Length)?;
+    require(
+        holds(p.len(), n, 3) & (space.cells() < starts) & (n <= items),
+        Refusal::Length,
+    )?;
     require(coordinates(p, n), Refusal::Float)
 }
 

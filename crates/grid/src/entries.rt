@@ -4,8 +4,8 @@ ghost use Rattle.std.specs.Prelude.{◌≡◌};
 ghost use Rattle.grid.specs.Answers.{grid_build_answer, near_answer};
 
 use crate::building::build;
-use crate::checks::{check, check_build};
-use crate::walking::{Fitted, count_numbers, list_numbers};
+use crate::checks::{Own, check, check_build};
+use crate::walking::{count_numbers, list_numbers};
 use crate::{Dims, Grid, Space};
 use accept::limits::MAX_REACH;
 use accept::{Refusal, at_most, point};
@@ -33,8 +33,12 @@ pub fn grid_build(
 pub fn near(grid: &Grid, p: Vec3, reach: usize, list: &mut [u32]) -> Result<usize, Refusal>
     ensures { (result, list.new) ≡ near_answer grid.now p reach list.old }
 {
-    check(grid, true, at_most(reach, MAX_REACH), true, point(p))?;
-    let fitted = Fitted { grid };
+    let own = Own {
+        ranged: at_most(reach, MAX_REACH),
+        floats: point(p),
+        ..Own::PASSED
+    };
+    let fitted = check(grid, own)?;
     let count = count_numbers(fitted.rows_near(p, reach), list.len())?;
     list_numbers(fitted.rows_near(p, reach), list);
     Ok(count)

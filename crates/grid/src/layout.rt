@@ -46,7 +46,8 @@ impl Space {
 }
 
 // The cell that p lies in; a point outside the cells counts for the nearest.
-// Kept: public, and for any dimensions; `Frame::cell_of` says besides that the cell is within them.
+// Kept: a public function stays, with its promise for any dimensions; `Frame::cell_of` calls it, and
+// says besides that the cell lies within the frame's.
 #[tactic(auto, unfolding(crate::specs::Cells::cell_of, vector::specs::Vector::minus))]
 pub fn cell_of(p: Vec3, lo: Vec3, inv_cell: f32, dim: Dims) -> Cell
     ensures { result ≡ cell_of p lo inv_cell dim }

@@ -2,8 +2,8 @@
 // point.
 //
 // A grid is lent as `starts`, one number a cell and one more, and `items`, the numbers of the
-// points: those of cell c stand from starts[c] up to starts[c + 1]. The entries refuse by document
-// 01's numbers. No public function has a `requires`.
+// points: those of cell c stand from starts[c] up to starts[c + 1]. The entries refuse for document
+// 01's reasons. No public function has a `requires`.
 #![tactic(auto)]
 
 mod blocks;
@@ -13,7 +13,7 @@ mod entries;
 mod layout;
 mod walking;
 
-pub use checks::check;
+pub use checks::{Own, check};
 pub use entries::{grid_build, near};
 pub use layout::cell_of;
 use std::marker::Model;

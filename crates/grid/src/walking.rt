@@ -1,9 +1,10 @@
 // The numbers near a point, row by row: the cells of a row follow one another, so that its numbers
 // stand together in items.
-ghost use Rattle.std.specs.Prelude.{◌≡◌, ◌≤◌, length};
+ghost use Rattle.std.specs.Prelude.{◌≡◌, ◌≤◌, cond, length, Some, None};
 ghost use Rattle.std.specs.List.{concat};
 ghost use Rattle.std.specs.Iterator.{YieldsFirstBy, item_count};
 ghost use Rattle.std.proofs.lemmas.List.Edits.{sets};
+ghost use Rattle.grid.specs.Checks.{list_fits};
 ghost use Rattle.grid.specs.Rows.{rows_near, counted};
 
 use crate::{Block, Grid};
@@ -11,11 +12,10 @@ use accept::{Refusal, require, wide};
 use std::marker::Model;
 use vector::Vec3;
 
-// A grid whose starts and items fit together, as those do that passed `check`: whoever makes one shows
-// it.
+// A grid whose starts and items fit together, as `check` hands it out.
 #[derive(Drop)]
 pub struct Fitted<'a> {
-    pub grid: &'a Grid<'a>,
+    grid: &'a Grid<'a>,
 }
 
 impl<'a> Model for Fitted<'a> {
@@ -31,6 +31,17 @@ impl<'a> Model for Fitted<'a> {
 }
 
 impl<'a> Fitted<'a> {
+    // The grid, if its starts and items fit together.
+    pub(crate) fn new(grid: &'a Grid<'a>) -> Option<Fitted<'a>>
+        ensures { result ≡ cond (list_fits grid.now) (Some grid.now) None }
+    {
+        if grid.list_fits() {
+            Some(Fitted { grid })
+        } else {
+            None
+        }
+    }
+
     // The rows of the cells within reach of the one that p lies in.
     pub fn rows_near(&self, p: Vec3, reach: usize) -> Rows<'a>
         ensures { result ≡ rows_near self.now p reach }

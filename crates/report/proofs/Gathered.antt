@@ -158,8 +158,7 @@ module _ (b : List ℕ) (e : report_check b ≡ Ok tt) where
     unfolding check grid_of_file probes_of_file checked
     gather_accepts =
         rw (columns_held, probes_held, points_held, probes_within)
-        (built_refusal c.surfels (points_of_file b) x.lo x.hi x.cell zero_starts zero_items _ _ true true build_accepts
-        ∙ rw (few_probes, box_passed.1))
+        (built_refusal c.surfels (points_of_file b) x.lo x.hi x.cell zero_starts zero_items _ build_accepts ∙ rw (few_probes, box_passed.1))
 
     gathered_lists : {r : Result Unit Refusal} {numbers : List ℕ} {floats : List Float}
         → (r, numbers, floats) ≡ gather_all_answer (grid_of_file b) (surfels_of_file b) (probes_of_file b) seen light

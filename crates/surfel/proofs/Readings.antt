@@ -13,13 +13,13 @@ use Rattle.vector.specs.declared.Vec3.{Vec3}
 use Rattle.vector.specs.Vector.{dot, minus, length_squared}
 use Rattle.vector.specs.Flat.{vec_at, filled, written}
 use Rattle.vector.proofs.Replaced.{at_filled, at_written}
-use Rattle.accept.specs.Limits.{max_surfels}
 use Rattle.accept.specs.Ranges.{point, coordinates}
 use Rattle.accept.specs.Refusal.{outcome}
-use Rattle.accept.specs.Tables.{at_most, number_at}
+use Rattle.accept.specs.Tables.{number_at}
 use Rattle.accept.specs.declared.refusal.Refusal.{Refusal}
 use Rattle.accept.proofs.Bounded.{coordinates_at}
 use Rattle.accept.proofs.Decimals.{nearest_to}
+use Rattle.grid.specs.declared.checks.Own.{Own}
 use Rattle.grid.specs.Lent.{Grid}
 use Rattle.grid.specs.Visiting.{visited}
 use Rattle.surfel.specs.declared.Probe.{Probe}
@@ -27,7 +27,7 @@ use Rattle.surfel.specs.declared.Reading.{Reading}
 use Rattle.surfel.specs.declared.Reading.TheVariants.{Seen, Unseen}
 use Rattle.surfel.specs.declared.Surfel.{Surfel}
 use Rattle.surfel.specs.declared.Weighed.{Weighed}
-use Rattle.surfel.specs.Checks.{Probes, probes_lent, check, check_all}
+use Rattle.surfel.specs.Checks.{Probes, probes_own, check, check_all}
 use Rattle.surfel.specs.Answers.{reading_at, seen_number, seen_light, gather_answer, gather_all_answer}
 use Rattle.surfel.specs.Gathering.{Surfels, surfel_at, weigh_all, gather}
 use Rattle.surfel.specs.Weighing.{align_limit, weight_limit, reading, nothing, counts_at, weigh}
@@ -98,9 +98,11 @@ unseen_back Unseen e = refl
 -- ---- many readings
 
 -- where one call on these tables is not refused, no other is whose own tests pass
-also_accepted : (g : Grid) (s : Surfels) (radius : Float) (few lent floats also : Bool) → check g s radius few lent floats ≡ Ok tt → also ≡ true → check g s radius true true also ≡ Ok tt
-also_accepted g s radius few lent floats also e h =
-    let a = not_refused g s radius few lent floats e in
+also_accepted : (g : Grid) (s : Surfels) (own : Own) (also : Bool) → check g s own ≡ Ok tt → also ≡ true
+    → check g s (record { few = true; ranged = own.ranged; lent = true; floats = also }) ≡ Ok tt
+unfolding check
+also_accepted g s own also e h =
+    let a = not_refused g s own e in
     rw h (rw (a.few_passed, a.lent_passed, a.floats_passed) at e)
 
 -- an answer that is done was not refused
@@ -110,20 +112,14 @@ done_by (Ok u) x y e = refl
 done_by (Err refusal) x y e = absurd cc
 
 module _ (g : Grid) (s : Surfels) (q : Probes) (seen : List ℕ) (light : List Float) where
-  -- the tests of the probes: few (2), lent (4) and floats (5)
-  abbrev few : Bool
-  few = at_most q.count max_surfels
-
-  abbrev lent : Bool
-  lent = probes_lent q.count (length q.p) (length q.normals) (length seen) (length light)
-
-  abbrev floats : Bool
-  floats = coordinates q.p q.count && coordinates q.normals q.count
+  -- the tests of the probes
+  abbrev own : Own
+  own = probes_own q (length seen) (length light)
 
   -- readings that are done were not refused
-  all_checked : (gather_all_answer g s q seen light).0 ≡ Ok tt → check g s q.radius few lent floats ≡ Ok tt
+  all_checked : (gather_all_answer g s q seen light).0 ≡ Ok tt → check g s own ≡ Ok tt
   unfolding gather_all_answer
-  all_checked e = done_by (check g s q.radius few lent floats) (filled (λ i. seen_number (reading_at g s q i)) q.count seen, written (λ i. seen_light (reading_at g s q i)) q.count light) (seen, light) e
+  all_checked e = done_by (check g s own) (filled (λ i. seen_number (reading_at g s q i)) q.count seen, written (λ i. seen_light (reading_at g s q i)) q.count light) (seen, light) e
 
   -- what is left where the readings are done
   pub all_done : (gather_all_answer g s q seen light).0 ≡ Ok tt
@@ -151,11 +147,11 @@ module _ (g : Grid) (s : Surfels) (q : Probes) (seen : List ℕ) (light : List F
     unfolding gather_answer
     single_at =
         let z = all_checked e in
-        let both = (and-eq-true_iff (coordinates q.p q.count) (coordinates q.normals q.count)).0 (not_refused g s q.radius few lent floats z).floats_passed in
+        let both = (and-eq-true_iff (coordinates q.p q.count) (coordinates q.normals q.count)).0 (not_refused g s own z).floats_passed in
         let at = coordinates_at q.p q.count both.0 i h in
         let normal = coordinates_at q.normals q.count both.1 i h in
         let Floats-at = point (vec_at q.p i) && point (vec_at q.normals i) in
-        rw (also_accepted g s q.radius few lent floats Floats-at z (rw at normal))
+        rw (also_accepted g s own Floats-at z (rw at normal))
 
 -- ---- the decimals
 

@@ -6,15 +6,20 @@ use Rattle.vector.specs.Vector.{zero_vec}
 use Rattle.accept.specs.Ranges.{point}
 use Rattle.accept.specs.Refusal.{outcome}
 use Rattle.accept.specs.declared.refusal.Refusal.{Refusal}
+use Rattle.grid.specs.declared.checks.Own.{Own}
 use Rattle.grid.specs.Lent.{Grid}
 use Rattle.surfel.specs.declared.Reading.{Reading}
 use Rattle.surfel.specs.declared.Reading.TheVariants.{Seen, Unseen}
-use Rattle.surfel.specs.Checks.{check, Probes, check_all}
+use Rattle.surfel.specs.Checks.{radius_within, check, Probes, check_all}
 use Rattle.surfel.specs.Gathering.{Surfels, gather}
+
+-- what the tests of a point, its normal and the radius say
+abbrev pub point_own : Vec3 → Vec3 → Float → Own
+point_own at normal radius = record { few = true; ranged = radius_within radius; lent = true; floats = point at && point normal }
 
 -- the reading at one point
 unfoldable pub gather_answer : Grid → Surfels → Vec3 → Vec3 → Float → Result Reading Refusal
-gather_answer g s at normal radius = outcome Err (Ok (gather g s at normal radius)) (check g s radius true true (point at && point normal))
+gather_answer g s at normal radius = outcome Err (Ok (gather g s at normal radius)) (check g s (point_own at normal radius))
 
 -- 1 where the light is seen, 0 where it is not
 abbrev pub seen_number : Reading → ℕ

@@ -8,6 +8,7 @@ use Rattle.accept.specs.Ranges.{within, coordinates}
 use Rattle.accept.specs.Tables.{at_most, holds, column}
 use Rattle.accept.specs.declared.refusal.Refusal.{Refusal}
 use Rattle.grid.specs.Checks as Grids
+use Rattle.grid.specs.declared.checks.Own.{Own}
 use Rattle.grid.specs.Lent.{Grid}
 use Rattle.surfel.specs.Gathering.{Surfels}
 
@@ -23,10 +24,16 @@ columns_hold n s = conj (column s.p n ∷ column s.normals n ∷ column s.irr n 
 unfoldable pub points_within : ℕ → Surfels → Bool
 points_within n s = coordinates s.p n && coordinates s.normals n
 
--- what refuses a reading; the tests of the call's own probes are few (2), lent (4) and floats (5)
-unfoldable pub check : Grid → Surfels → Float → Bool → Bool → Bool → Result Unit Refusal
-check g s radius few lent floats =
-    Grids.check g few (radius_within radius) (columns_hold g.n s && lent) (points_within g.n s && floats)
+-- what refuses a reading; the tests of the call's own probes are few (2), ranged (3), lent (4) and floats (5)
+unfoldable pub check : Grid → Surfels → Own → Result Unit Refusal
+check g s own =
+    Grids.check g
+    (record {
+      few = own.few;
+      ranged = own.ranged;
+      lent = columns_hold g.n s && own.lent;
+      floats = points_within g.n s && own.floats;
+    })
 
 -- many probes: their points, their normals, and the radius
 pub record Probes : Type 0 where
@@ -47,8 +54,16 @@ probes_in count p normals radius = probes_of count p.entry.now normals.entry.now
 unfoldable pub probes_lent : ℕ → ℕ → ℕ → ℕ → ℕ → Bool
 probes_lent count p normals seen light = conj (holds p count 3 ∷ holds normals count 3 ∷ leb count seen ∷ holds light count 3 ∷ [])
 
+-- what the tests of these probes say, whose readings go into slices of these lengths
+abbrev pub probes_own : Probes → ℕ → ℕ → Own
+probes_own q seen light =
+    record {
+      few = at_most q.count max_surfels;
+      ranged = radius_within q.radius;
+      lent = probes_lent q.count (length q.p) (length q.normals) seen light;
+      floats = coordinates q.p q.count && coordinates q.normals q.count;
+    }
+
 -- what refuses these probes, whose readings go into slices of these lengths
 abbrev pub check_all : Grid → Surfels → Probes → ℕ → ℕ → Result Unit Refusal
-check_all g s q seen light =
-    check g s q.radius (at_most q.count max_surfels) (probes_lent q.count (length q.p) (length q.normals) seen light)
-    (coordinates q.p q.count && coordinates q.normals q.count)
+check_all g s q seen light = check g s (probes_own q seen light)

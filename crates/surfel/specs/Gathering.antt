@@ -22,6 +22,14 @@ pub record Surfels : Type 0 where
 abbrev pub surfels_of : List Float → List Float → List Float → Surfels
 surfels_of p normals irr = record { p = p; normals = normals; irr = irr }
 
+-- surfels, and the grid of their points
+pub record Gridded : Type 0 where
+  pub grid : Grid
+  pub surfels : Surfels
+
+abbrev pub gridded_of : Grid → Surfels → Gridded
+gridded_of g s = record { grid = g; surfels = s }
+
 -- the surfels that a function was lent
 abbrev pub surfels_in : Slice Float → Slice Float → Slice Float → Surfels
 surfels_in p normals irr = surfels_of p.entry.now normals.entry.now irr.entry.now

@@ -1,29 +1,32 @@
 // Why a reading is refused.
-ghost use Rattle.std.specs.Prelude.{◌≡◌, length};
-ghost use Rattle.surfel.specs.Checks.{radius_within, columns_hold, points_within, check, probes_lent, check_all};
+ghost use Rattle.std.specs.Prelude.{◌≡◌, length, Ok, Err};
+ghost use Rattle.accept.specs.Refusal.{outcome};
+ghost use Rattle.surfel.specs.Gathering.{gridded_of};
+ghost use Rattle.surfel.specs.Checks.{radius_within, columns_hold, points_within, check, probes_lent, probes_own};
 
+use crate::gathering::Gridded;
 use crate::{Probes, Surfels};
 use accept::limits::{MAX_RADIUS, MAX_SURFELS};
 use accept::{Refusal, at_most, coordinates, holds, within};
-use grid::Grid;
+use grid::{Grid, Own};
 
-// What refuses a reading of these surfels. The tests of the call's own probes are handed in: few
-// (2), lent (4) and floats (5).
+// The surfels of a call in their grid, or why the call is refused; `own` has the tests of what it
+// brings besides.
 #[tactic(auto, unfolding(crate::specs::Checks::check))]
-pub fn check(
-    grid: &Grid,
-    surfels: &Surfels,
-    radius: f32,
-    few: bool,
-    lent: bool,
-    floats: bool,
-) -> Result<(), Refusal>
-    ensures { result ≡ check grid.now surfels.now radius few lent floats }
+pub fn check<'a>(
+    grid: &'a Grid<'a>,
+    surfels: &'a Surfels<'a>,
+    own: Own,
+) -> Result<Gridded<'a>, Refusal>
+    ensures { result ≡ outcome Err (Ok (gridded_of grid.now surfels.now)) (check grid.now surfels.now own) }
 {
-    let ranged = radius_within(radius);
-    let columns = surfels.columns_hold(grid.n);
-    let points = surfels.points_within(grid.n);
-    grid::check(grid, few, ranged, columns & lent, points & floats)
+    let own = Own {
+        lent: surfels.columns_hold(grid.n) & own.lent,
+        floats: surfels.points_within(grid.n) & own.floats,
+        ..own
+    };
+    let grid = grid::check(grid, own)?;
+    Ok(Gridded { grid, surfels })
 }
 
 // Whether a radius is in its range.
@@ -51,27 +54,28 @@ impl Surfels<'_> {
     }
 }
 
-// What refuses the readings at these probes, into slices of these lengths.
-pub fn check_all(
-    grid: &Grid,
-    surfels: &Surfels,
-    probes: &Probes,
-    seen: usize,
-    light: usize,
-) -> Result<(), Refusal>
-    ensures { result ≡ check_all grid.now surfels.now probes.now seen light }
-{
-    let n = probes.count;
-    let few = at_most(n, MAX_SURFELS);
-    let lent = probes_lent(n, probes.p.len(), probes.normals.len(), seen, light);
-    let floats = coordinates(probes.p, n) & coordinates(probes.normals, n);
-    check(grid, surfels, probes.radius, few, lent, floats)
-}
+impl Probes<'_> {
+    // The tests of these probes, whose readings go into slices of these lengths.
+    pub(crate) fn own(&self, seen: usize, light: usize) -> Own
+        ensures { result ≡ probes_own self.now seen light }
+    {
+        Own {
+            few: at_most(self.count, MAX_SURFELS),
+            ranged: radius_within(self.radius),
+            lent: self.lent(seen, light),
+            floats: coordinates(self.p, self.count) & coordinates(self.normals, self.count),
+        }
+    }
 
-// Whether slices of these lengths hold so many probes and their readings.
-#[tactic(auto, unfolding(crate::specs::Checks::probes_lent))]
-fn probes_lent(probes: usize, p: usize, normals: usize, seen: usize, light: usize) -> bool
-    ensures { result ≡ probes_lent probes p normals seen light }
-{
-    holds(p, probes, 3) & holds(normals, probes, 3) & (probes <= seen) & holds(light, probes, 3)
+    // Whether the probes' slices hold them, and slices of these lengths their readings.
+    #[tactic(auto, unfolding(crate::specs::Checks::probes_lent))]
+    fn lent(&self, seen: usize, light: usize) -> bool
+        ensures { result ≡ probes_lent self.now.count (length self.now.p) (length self.now.normals) seen light }
+    {
+        let n = self.count;
+        holds(self.p.len(), n, 3)
+            & holds(self.normals.len(), n, 3)
+            & (n <= seen)
+            & holds(light, n, 3)
+    }
 }

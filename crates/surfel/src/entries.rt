@@ -3,12 +3,10 @@
 ghost use Rattle.std.specs.Prelude.{◌≡◌};
 ghost use Rattle.surfel.specs.Answers.{gather_answer, gather_all_answer};
 
-use crate::checks::{check, check_all};
-use crate::gathering::read;
-use crate::probing::read_each;
+use crate::checks::{check, radius_within};
 use crate::{Probes, Reading, Surfels};
 use accept::{Refusal, point};
-use grid::Grid;
+use grid::{Grid, Own};
 use vector::Vec3;
 
 // The light at the point `at` with this normal.
@@ -21,8 +19,13 @@ pub fn gather(
 ) -> Result<Reading, Refusal>
     ensures { result ≡ gather_answer grid.now surfels.now at normal radius }
 {
-    check(grid, surfels, radius, true, true, point(at) & point(normal))?;
-    Ok(read(grid, surfels, at, normal, radius))
+    let own = Own {
+        ranged: radius_within(radius),
+        floats: point(at) & point(normal),
+        ..Own::PASSED
+    };
+    let gridded = check(grid, surfels, own)?;
+    Ok(gridded.read(at, normal, radius))
 }
 
 // The light at each of many probes: seen becomes 1 where it is seen and 0 where it is not, and light
@@ -37,7 +40,8 @@ pub fn gather_all(
 ) -> Result<(), Refusal>
     ensures { (result, seen.new, light.new) ≡ gather_all_answer grid.now surfels.now probes.now seen.old light.old }
 {
-    check_all(grid, surfels, probes, seen.len(), light.len())?;
-    read_each(grid, surfels, probes, seen, light);
+    let own = probes.own(seen.len(), light.len());
+    let gridded = check(grid, surfels, own)?;
+    gridded.read_each(probes, seen, light);
     Ok(())
 }

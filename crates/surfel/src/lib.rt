@@ -1,7 +1,7 @@
 // The reading: indirect irradiance at a point, from the surfels near it.
 //
 // A reading is seen, with the light, or unseen: a point that no surfel covers is not dark. The
-// entries refuse by document 01's numbers. No public function has a `requires`.
+// entries refuse for document 01's reasons. No public function has a `requires`.
 #![tactic(auto)]
 
 mod checks;

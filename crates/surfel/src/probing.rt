@@ -1,33 +1,26 @@
-// Many probes read one after the other, of tables that were accepted.
+// Many probes read one after the other.
 ghost use Rattle.std.specs.Prelude.{◌≡◌, ◌*◌, ◌≤◌, length};
-ghost use Rattle.surfel.specs.Needs.{Accepted};
 ghost use Rattle.surfel.specs.Answers.{seen_number, seen_light, all_seen, all_light};
 
-use crate::gathering::read;
-use crate::{Probes, Reading, Surfels};
-use grid::Grid;
+use crate::gathering::Gridded;
+use crate::{Probes, Reading};
 use vector::Vec3;
 
-// The reading at each of the probes.
-pub fn read_each(
-    grid: &Grid,
-    surfels: &Surfels,
-    probes: &Probes,
-    seen: &mut [u32],
-    light: &mut [f32],
-)
-    requires accepted { Accepted grid.now surfels.now }
-    requires probes_in_bounds { probes.now.count ≤ length seen.old }
-    requires probes_in_bounds_2 { 3 * probes.now.count ≤ length light.old }
-    ensures seen_after { seen.new ≡ all_seen grid.now surfels.now probes.now seen.old }
-    ensures light_after { light.new ≡ all_light grid.now surfels.now probes.now light.old }
-{
-    for i in 0..probes.count {
-        let at = vector::at(probes.p, i);
-        let normal = vector::at(probes.normals, i);
-        let reading = read(grid, surfels, at, normal, probes.radius);
-        seen[i] = reading.seen_number();
-        vector::put(light, i, reading.seen_light());
+impl Gridded<'_> {
+    // The reading at each of the probes.
+    pub fn read_each(&self, probes: &Probes, seen: &mut [u32], light: &mut [f32])
+        requires probes_in_bounds { probes.now.count ≤ length seen.old }
+        requires probes_in_bounds_2 { 3 * probes.now.count ≤ length light.old }
+        ensures seen_after { seen.new ≡ all_seen self.now.grid self.now.surfels probes.now seen.old }
+        ensures light_after { light.new ≡ all_light self.now.grid self.now.surfels probes.now light.old }
+    {
+        for i in 0..probes.count {
+            let at = vector::at(probes.p, i);
+            let normal = vector::at(probes.normals, i);
+            let reading = self.read(at, normal, probes.radius);
+            seen[i] = reading.seen_number();
+            vector::put(light, i, reading.seen_light());
+        }
     }
 }
 

@@ -4,38 +4,33 @@ use lib.ListN.{length}
 use Rattle.std.proofs.lemmas.Result.{err_from_is_err_and}
 use Rattle.grid.specs.Rows.{rows_near}
 use Rattle.grid.proofs.Answered.{near_refused, near_short, near_done, near_fits}
+use Rattle.grid.proofs.Handed.{handed, turned_away}
 use Rattle.grid.proofs.Nearby.{visited_rows}
 use Rattle.grid.proofs.Walked.{count_short, count_done}
 use Rattle.grid.proofs.entries.near.Goals as goal
 
-pub returns-in_err-check : goal.returns-in_err-check
-returns-in_err-check c =
+pub returns-in_err-fitted : goal.returns-in_err-fitted
+returns-in_err-fitted c =
     let a = c.args in
     let e = rw (c.point.ensures, c.at_most.ensures) at c.check.ensures in
     let p = err_from_is_err_and c.from_residual.result c.from_residual.ensures.1 in
-    rw (p.1, p.2) (near_refused a.grid.now a.p a.reach a.list.now (sym e ∙ c.in_err-check.was))
-
-pub invariant_of-fitted : goal.invariant_of-fitted
-invariant_of-fitted c =
-    let a = c.args in
-    let e = rw (c.point.ensures, c.at_most.ensures) at c.check.ensures in
-    near_fits a.grid.now a.p a.reach a.list.now (sym e ∙ c.in_ok-check.was)
+    rw (p.1, p.2) (near_refused a.grid.now a.p a.reach a.list.now (turned_away a.grid.now _ (sym e ∙ c.in_err-fitted.was)))
 
 pub returns-in_err-count : goal.returns-in_err-count
 returns-in_err-count c =
     let a = c.args in
     let e = rw (c.point.ensures, c.at_most.ensures) at c.check.ensures in
-    let z = sym e ∙ c.in_ok-check.was in
-    let v = visited_rows a.grid.now a.p a.reach (near_fits a.grid.now a.p a.reach a.list.now z) in
-    let s = count_short (rows_near a.grid.now a.p a.reach) (length a.list.now) (sym (rw c.rows_near.ensures at c.count_numbers.ensures) ∙ c.in_err-count.was) in
+    let z = handed a.grid.now _ (sym e ∙ c.in_ok-fitted.was) in
+    let v = visited_rows a.grid.now a.p a.reach (near_fits a.grid.now a.p a.reach a.list.now z.0) in
+    let s = count_short (rows_near a.grid.now a.p a.reach) (length a.list.now) (sym (rw (c.rows_near.ensures, z.1) at c.count_numbers.ensures) ∙ c.in_err-count.was) in
     let p = err_from_is_err_and c.from_residual-in_err-count.result c.from_residual-in_err-count.ensures.1 in
-    rw (p.1, p.2, s.0) (near_short a.grid.now a.p a.reach a.list.now z (rw v s.1))
+    rw (p.1, p.2, s.0) (near_short a.grid.now a.p a.reach a.list.now z.0 (rw v s.1))
 
 pub returns : goal.returns
 returns c =
     let a = c.args in
     let e = rw (c.point.ensures, c.at_most.ensures) at c.check.ensures in
-    let z = sym e ∙ c.in_ok-check.was in
-    let v = visited_rows a.grid.now a.p a.reach (near_fits a.grid.now a.p a.reach a.list.now z) in
-    let s = count_done (rows_near a.grid.now a.p a.reach) (length a.list.now) (sym (rw c.rows_near.ensures at c.count_numbers.ensures) ∙ c.in_ok-count.was) in
-    rw (s.0, c.list_numbers.ensures, c.rows_near-2.ensures, ← v) (near_done a.grid.now a.p a.reach a.list.now z (rw v s.1))
+    let z = handed a.grid.now _ (sym e ∙ c.in_ok-fitted.was) in
+    let v = visited_rows a.grid.now a.p a.reach (near_fits a.grid.now a.p a.reach a.list.now z.0) in
+    let s = count_done (rows_near a.grid.now a.p a.reach) (length a.list.now) (sym (rw (c.rows_near.ensures, z.1) at c.count_numbers.ensures) ∙ c.in_ok-count.was) in
+    rw (s.0, c.list_numbers.ensures, c.rows_near-2.ensures, z.1, ← v) (near_done a.grid.now a.p a.reach a.list.now z.0 (rw v s.1))

@@ -1,9 +1,9 @@
--- `surfel::probing::read_each` meets its contract. The loop has read and stored the first i probes. Assumes nothing.
+-- `surfel::gathering::Gridded::read_each` meets its contract. The loop has read and stored the first i probes. Assumes nothing.
 use mathlib.Core.Path.{refl}
 use native.Mathlib.Omega.{arith}
 use lib.ListN.{length-set}
 use Rattle.vector.proofs.Replaced.{filled_none, filled_put, written_none, written_put}
-use Rattle.surfel.proofs.probing.read_each.Goals as goal
+use Rattle.surfel.proofs.gathering.Gridded.read_each.Goals as goal
 
 pub loop-i-init : goal.loop-i-init
 loop-i-init c =
