@@ -17,7 +17,7 @@ pub fn dist_mat(scene: &Scene, p: Vec3) -> DistHit
     ensures { result ≡ dist_mat scene.now p }
 {
     let far = DistHit {
-        d: 3.4028235e38,
+        d: f32::MAX,
         mat: 0,
     };
     let best = nearest_part(scene, scene.plane_parts, scene.planes, p, far);

@@ -77,7 +77,7 @@ pub struct Closure {
 }
 
 // How many rays met nothing, and how many distances were evaluated.
-#[derive(Clone, Copy)]
+#[derive(Clone, Copy, Default)]
 pub struct Openings {
     pub missed: u32,
     pub evals: u32,

@@ -1,7 +1,10 @@
 // How open the hemisphere above a point is.
 ghost use Rattle.std.specs.Prelude.{◌≡◌, ◌*◌, ◌<◌, ◌≤◌};
-ghost use Rattle.scene.specs.Directions.{direction};
-ghost use Rattle.scene.specs.Opening.{in_frame, ray, counted, openings, hemisphere_closure};
+ghost use Rattle.vector.specs.Tangent.{frame};
+ghost use Rattle.vector.specs.Vector.{vec, normalize};
+ghost use Rattle.scene.specs.Directions.{float_of};
+ghost use Rattle.scene.specs.Marching.{trace};
+ghost use Rattle.scene.specs.Opening.{in_frame, offset, ray_start, counted, openings, hemisphere_closure};
 
 use crate::marching::trace;
 use crate::{Closure, Openings, Ray, Traced};
@@ -45,25 +48,21 @@ pub fn hemisphere_closure(scene: &Scene, p: Vec3, n: Vec3, tmax: f32) -> Closure
 fn openings(scene: &Scene, p: Vec3, n: Vec3, tmax: f32) -> Openings
     ensures { result ≡ openings scene.now p n tmax 16 }
 {
-    let mut o = Openings {
-        missed: 0,
-        evals: 0,
-    };
-    for k in 0..16 {
-        o = o.counted(ray(scene, p, n, tmax, k));
+    let mut o = Openings::default();
+    for bits in DIRECTIONS {
+        o = o.counted(ray(scene, p, n, tmax, direction(bits)));
     }
     o
 }
 
-// What the ray in direction k of the 16 meets, from a little way above p on.
-#[tactic(auto, unfolding(crate::specs::Opening::ray, crate::specs::Opening::ray_start))]
-fn ray(scene: &Scene, p: Vec3, n: Vec3, tmax: f32, k: usize) -> Traced
-    requires { k < 16 }
-    ensures { result ≡ ray scene.now p n tmax k }
+// What the ray in direction d about n meets, from a little way above p on.
+#[tactic(auto, unfolding(crate::specs::Opening::ray_start))]
+fn ray(scene: &Scene, p: Vec3, n: Vec3, tmax: f32, d: Vec3) -> Traced
+    ensures { result ≡ trace scene.now (ray_start p n) (normalize (in_frame (frame n) n d)) offset tmax }
 {
     let ray = Ray {
         ro: p.plus(n.scaled(1e-3)),
-        rd: in_frame(vector::frame(n), n, direction(k)).normalize(),
+        rd: in_frame(vector::frame(n), n, d).normalize(),
         tmin: 1e-3,
         tmax,
     };
@@ -101,12 +100,11 @@ fn in_frame(f: Tangents, n: Vec3, d: Vec3) -> Vec3
     f.t.scaled(d.x).plus(f.b.scaled(d.y)).plus(n.scaled(d.z))
 }
 
-// Direction k of the 16, about z.
-fn direction(k: usize) -> Vec3
-    requires { k < 16 }
-    ensures { result ≡ direction k }
+// The direction of these bits, about z.
+fn direction(bits: [u32; 3]) -> Vec3
+    ensures { result ≡ vec (float_of bits 0) (float_of bits 1) (float_of bits 2) }
 {
-    let [x, y, z] = DIRECTIONS[k];
+    let [x, y, z] = bits;
     Vec3 {
         x: of_bits(x),
         y: of_bits(y),

@@ -15,6 +15,7 @@ use vector::Vec3;
 impl Scene<'_> {
     // What refuses a call on this scene; floats says whether the call's own floats are in their
     // range.
+    // Kept: a flag, since it is the only test that a call has of its own, and `check(point(p))` says which.
     #[tactic(auto, unfolding(crate::specs::Checks::check, accept::specs::Refusal::checked))]
     pub fn check(&self, floats: bool) -> Result<(), Refusal>
         ensures { result ≡ check self.now floats }
@@ -52,11 +53,7 @@ impl Scene<'_> {
     pub fn shapes_within(&self) -> bool
         ensures { result ≡ shapes_within self.now }
     {
-        if self.tables_hold() {
-            self.prims_within()
-        } else {
-            false
-        }
+        self.tables_hold() && self.prims_within()
     }
 
     // Whether the tables hold their entries, each kind is one of the seven, and each plane and object
@@ -65,13 +62,10 @@ impl Scene<'_> {
     pub fn parts_fit(&self) -> bool
         ensures { result ≡ parts_fit self.now }
     {
-        if self.tables_hold() {
-            numbers_below(self.kinds, self.prims, 7)
+        self.tables_hold()
+            && numbers_below(self.kinds, self.prims, 7)
                 & self.all_fit(self.plane_parts, self.planes, true)
                 & self.all_fit(self.object_parts, self.objects, false)
-        } else {
-            false
-        }
     }
 
     // Whether the floats of each primitive are in their range.
@@ -92,11 +86,7 @@ impl Scene<'_> {
     fn prim_within(&self, k: usize) -> bool
         ensures { result ≡ prim_within self.now k }
     {
-        if number_at(self.kinds, k) > 6 {
-            true
-        } else {
-            shape_within(self.shape_at(k))
-        }
+        number_at(self.kinds, k) > 6 || shape_within(self.shape_at(k))
     }
 
     // Whether each of n parts fits, as planes or as objects.
@@ -112,6 +102,7 @@ impl Scene<'_> {
     }
 
     // Whether a part's primitives are in the table, and its base is a plane exactly where the part is.
+    // Kept: the kind's number is tested; a shape would be read with eight floats, to ask its case alone.
     #[tactic(auto, unfolding(crate::specs::Checks::part_fits))]
     fn part_fits(&self, plane: bool, part: Part) -> bool
         ensures { result ≡ part_fits self.now plane part }

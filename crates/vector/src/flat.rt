@@ -42,7 +42,7 @@ pub fn put(s: &mut [f32], i: usize, v: Vec3)
 pub fn float_at(s: &[f32], k: usize) -> f32
     ensures { result ≡ float_at s.now k }
 {
-    if k < s.len() { s[k] } else { float::nan() }
+    s.get(k).copied().unwrap_or(float::nan())
 }
 
 // Stores x as the float number k of s, unless s ends before.
