@@ -2,6 +2,7 @@
 ghost use Rattle.std.specs.Prelude.{◌≡◌};
 ghost use Rattle.sdf.specs.Beyond.{beyond, far_sphere, far_box, far_capsule};
 
+use crate::solids::{off_axis, past_corner};
 use vector::Vec3;
 
 // Whether the root of a square, less r, is surely not below best. False says nothing.
@@ -27,7 +28,7 @@ pub fn sphere(c: Vec3, r: f32, p: Vec3, best: f32) -> bool
 pub fn round_box(c: Vec3, b: Vec3, r: f32, p: Vec3, best: f32) -> bool
     ensures { result ≡ far_box c b r p best }
 {
-    let q = p.minus(c).abs().minus(b.minus(Vec3 { x: r, y: r, z: r }));
+    let q = past_corner(c, b, r, p);
     let outside = 0.0 <= float::max(q.x, float::max(q.y, q.z));
     outside & beyond(q.max(Vec3::zero()).length_squared(), r, best)
 }
@@ -37,8 +38,5 @@ pub fn round_box(c: Vec3, b: Vec3, r: f32, p: Vec3, best: f32) -> bool
 pub fn capsule(a: Vec3, b: Vec3, r: f32, p: Vec3, best: f32) -> bool
     ensures { result ≡ far_capsule a b r p best }
 {
-    let pa = p.minus(a);
-    let ba = b.minus(a);
-    let h = float::clamp(pa.dot(ba) / ba.dot(ba), 0.0, 1.0);
-    beyond(pa.minus(ba.scaled(h)).length_squared(), r, best)
+    beyond(off_axis(a, b, p).length_squared(), r, best)
 }
