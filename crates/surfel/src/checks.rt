@@ -26,7 +26,16 @@ pub fn check<'a>(
         ..own
     };
     let grid = grid::check(grid, own)?;
-    Ok(Gridded { grid, surfels })
+    let (p, _) = surfels.p.as_chunks();
+    let (normals, _) = surfels.normals.as_chunks();
+    let (irr, _) = surfels.irr.as_chunks();
+    Ok(Gridded {
+        grid,
+        surfels,
+        p,
+        normals,
+        irr,
+    })
 }
 
 // Whether a radius is in its range.

@@ -13,22 +13,25 @@ use std::marker::Model;
 use vector::Vec3;
 
 // Surfels in the grid of their points, as `check` hands them out: the grid's starts and items fit
-// together, and each column has a vector for each of its points.
+// together, and each column has a vector for each of its points. The columns are cut into vectors.
 #[derive(Drop)]
 pub struct Gridded<'a> {
     pub grid: Fitted<'a>,
     pub surfels: &'a Surfels<'a>,
+    pub p: &'a [[f32; 3]],
+    pub normals: &'a [[f32; 3]],
+    pub irr: &'a [[f32; 3]],
 }
 
 impl<'a> Model for Gridded<'a> {
     ghost use Rattle.surfel.specs.Gathering.{Gridded as Both, gridded_of};
-    ghost use Rattle.surfel.specs.Needs.{Accepted};
+    ghost use Rattle.surfel.specs.Needs.{Cut};
 
     ghost Value = { Both };
 
     ghost view = { λ t. gridded_of t.grid t.surfels.now };
 
-    ghost invariant = { λ t. Accepted t.grid t.surfels.now };
+    ghost invariant = { λ t. Cut t.grid t.surfels.now t.p.now t.normals.now t.irr.now };
 }
 
 impl Gridded<'_> {
@@ -43,47 +46,41 @@ impl Gridded<'_> {
         };
         let mut sum = nothing();
         for row in self.grid.rows_near(at, 1) {
-            sum = self.surfels.weigh_row(row, probe, sum);
+            sum = self.weigh_row(row, probe, sum);
         }
         sum.reading()
     }
-}
 
-impl Surfels<'_> {
     // The surfels of these numbers, weighed after those of `before`.
     fn weigh_row(&self, row: &[u32], probe: Probe, before: Weighed) -> Weighed
-        requires { All (Named self.now) row.now }
-        ensures { result ≡ weigh_all self.now probe before row.now }
+        requires { All (Named self.now.surfels) row.now }
+        ensures { result ≡ weigh_all self.now.surfels probe before row.now }
     {
         let mut sum = before;
         for &number in row {
-            sum = sum.with(probe, self.surfel_at(wide(number)));
+            sum = sum.with(probe, self.surfel_at(number));
         }
         sum
     }
 
     // The surfel number i.
-    fn surfel_at(&self, i: usize) -> Surfel
-        requires { Named self.now i }
-        ensures { result ≡ surfel_at self.now i }
+    fn surfel_at(&self, i: u32) -> Surfel
+        requires { Named self.now.surfels i }
+        ensures { result ≡ surfel_at self.now.surfels i }
     {
+        let place = wide(i);
         Surfel {
-            p: vec_at(self.p, i),
-            n: vec_at(self.normals, i),
-            irr: vec_at(self.irr, i),
+            p: vec_of(self.p[place]),
+            n: vec_of(self.normals[place]),
+            irr: vec_of(self.irr[place]),
         }
     }
 }
 
-// The vector number i of a flat slice.
-// Kept: `vector::at` would test each place, and a loop over surfels indexes without tests.
-fn vec_at(s: &[f32], i: usize) -> Vec3
-    requires { 3 * i + 2 < length s.now }
-    ensures { result ≡ vec_at s.now i }
+// The vector of three floats.
+fn vec_of(v: [f32; 3]) -> Vec3
+    ensures { result ≡ vec_at v 0 }
 {
-    Vec3 {
-        x: s[3 * i],
-        y: s[3 * i + 1],
-        z: s[3 * i + 2],
-    }
+    let [x, y, z] = v;
+    Vec3 { x, y, z }
 }

@@ -38,6 +38,7 @@ impl Weighed {
 }
 
 // No surfel weighed.
+// Kept: `Vec3::zero` says the light's zero; a derived Default would want one of `Vec3`, which says less.
 pub fn nothing() -> Weighed
     ensures { result ≡ nothing }
 {

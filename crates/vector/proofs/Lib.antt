@@ -4,3 +4,4 @@ pub mod Replaced
 pub mod Puts
 pub mod Stored
 pub mod Readings
+pub mod Cut
