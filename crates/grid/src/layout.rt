@@ -1,7 +1,7 @@
 // How many cells a box takes, and which of them a point lies in.
-ghost use Rattle.std.specs.Prelude.{◌≡◌, ◌+◌, ◌*◌, ◌<◌, length};
+ghost use Rattle.std.specs.Prelude.{◌≡◌};
 ghost use Rattle.float.specs.Arithmetic.{◌/f◌, 1f};
-ghost use Rattle.grid.specs.Cells.{dims_of, cells, cell_of, cell_number, point_cell};
+ghost use Rattle.grid.specs.Cells.{dims_of, cells, cell_of, cell_number};
 ghost use Rattle.grid.specs.Needs.{Bounded, Within};
 
 use crate::{Cell, Dims, Space};
@@ -94,21 +94,5 @@ impl Frame {
         ensures { result ≡ cell_number self.dim c }
     {
         c.x + self.dim.x * (c.y + self.dim.y * c.z)
-    }
-
-    // The number of the cell that point i lies in.
-    #[tactic(auto, using(crate::proofs::Numbered::point_below), unfolding(crate::specs::Cells::point_cell))]
-    pub fn point_cell(self, p: &[f32], i: usize) -> usize
-        requires { 3 * i + 2 < length p.now }
-        ensures value { result ≡ point_cell p.now self.lo self.inv_cell self.dim i }
-        ensures below { result < cells self.dim }
-    {
-        // Kept: `vector::at` would test each place, and a loop over points indexes without tests.
-        let at = Vec3 {
-            x: p[3 * i],
-            y: p[3 * i + 1],
-            z: p[3 * i + 2],
-        };
-        self.cell_number(self.cell_of(at))
     }
 }
