@@ -2,11 +2,14 @@
 use mathlib.Core.List.{List, ◌++◌}
 use mathlib.Core.Logic.{inl, inr}
 use mathlib.Core.Path.{◌≡◌, sym, ap, ◌∙◌}
-use Prim.Native.Nat.{ℕ, suc, ◌+◌, ◌<◌, ◌≤◌}
+use Prim.Native.Nat.{ℕ, suc, ◌+◌, ◌-◌, ◌<◌, ◌≤◌}
 use native.Mathlib.Nat.{eq-or-lt_of_le}
 use native.Mathlib.Omega.{arith}
-use lib.ListN.{get_or, take, drop, take-append-drop}
-use lib.Seq.{slice, get_or-take}
+use lib.ListN.{length, get_or, take, drop, length-take, length-drop, take-append-drop}
+use lib.Seq.{slice, get_or-take, get_or-drop}
+use Rattle.std.specs.Prelude.{Option, Some, None, MatchOption}
+use Rattle.std.specs.List.{AllWithin, HoldsAt}
+use Rattle.std.proofs.lemmas.List.{get_or_default}
 use Rattle.accept.specs.Tables.{number_at}
 use Rattle.order.specs.Order.{upto, bucket, ordered, earlier}
 use Rattle.order.proofs.Counting.{standing, standing_stands}
@@ -14,15 +17,47 @@ use Rattle.order.proofs.Facts.{earlier_rises, own_range, range_own, slice_ordere
 use Rattle.order.proofs.Ranks.{lt_or_le, earlier_small}
 use Rattle.clusters.specs.Sorting.{Run}
 
--- a run under way
-pub record Ran (key : ℕ → ℕ) (n a e : ℕ) : Type 0 where
-  pub past : a < e
-  pub within : e ≤ n
-  pub same : (k : ℕ) → a ≤ k → k < e → key k ≡ key a
+-- the numbers after place a, of n
+module _ (n a : ℕ) (l : List ℕ) (h : a < n) (long : n ≤ length l) where
+  abbrev pub following : List ℕ
+  following = take (n - (a + 1)) (drop (a + 1) l)
 
-module _ (key : ℕ → ℕ) (n a : ℕ) where
-  pub ran_begins : a < n → Ran key n a (a + 1)
-  ran_begins h = record { past = omega arith; within = omega arith; same = λ k l r. ap key (omega arith) }
+  length_following : length following ≡ n - (a + 1)
+  length_following = omega (arith, length-take (n - (a + 1)) (drop (a + 1) l), length-drop (a + 1) l)
+
+  at_following : (k d : ℕ) → k < length following → get_or following k d ≡ number_at l (a + 1 + k)
+  at_following k d p =
+      get_or-take (n - (a + 1)) (drop (a + 1) l) k d (omega (arith, length_following)) ∙ get_or-drop (a + 1) l k d
+      ∙ get_or_default l (a + 1 + k) d 0 (omega (arith, length_following))
+
+  pub following_below : ((k : ℕ) → k < n → number_at l k < n) → (x k : ℕ) → k < length following → x ≡ get_or following k x → x < n
+  following_below below x k p e = omega (arith, e, at_following k x p, below (a + 1 + k) (omega (arith, length_following)))
+
+  same-at : (key : ℕ → ℕ) (m : ℕ) → m ≤ length following → AllWithin (λ i. key i ≡ key (number_at l a)) following 0 m
+      → (k : ℕ) → a ≤ k → k < a + 1 + m → key (number_at l k) ≡ key (number_at l a)
+  same-at key m q w k f g =
+      elim (eq-or-lt_of_le f) [
+        | inl e ↦ ap (λ (i : ℕ). key (number_at l i)) (sym e)
+        | inr p ↦
+            let there : a + 1 + (k - (a + 1)) ≡ k = omega arith in
+            sym (ap key (at_following (k - (a + 1)) 0 (omega arith) ∙ ap (number_at l) there)) ∙ w (k - (a + 1)) 0 (omega arith) (omega arith)
+      ]
+
+  -- the run of place a ends at the first of them that has another key, or else behind all
+  pub run_to : (key : ℕ → ℕ) (r : Option ℕ) (e : ℕ)
+      → MatchOption r
+      (AllWithin (λ i. key i ≡ key (number_at l a)) following 0 (length following))
+      (λ k. (k < length following) × HoldsAt (λ i. key i ≡ key (number_at l a) → ⊥) following k × AllWithin (λ i. key i ≡ key (number_at l a)) following 0 k)
+      → MatchOption r (e ≡ n) (λ k. e ≡ a + 1 + k) → Run (λ k. key (number_at l k)) n a e
+  run_to key None e w q =
+      record { past = omega arith; within = omega arith; same = λ k f g. same-at key (length following) (omega arith) w k f (omega (arith, length_following)); ends = λ f. absurd (omega arith) }
+  run_to key (Some k) e w q =
+      record {
+        past = omega arith;
+        within = omega (arith, length_following, w.0);
+        same = λ j f g. same-at key k (omega (arith, w.0)) w.2 j f (omega arith);
+        ends = λ f g. w.1 0 (ap key (at_following k 0 w.0 ∙ ap (number_at l) (sym q)) ∙ g);
+      }
 
 -- the first n numbers of l are those of 0 .. n - 1 in the order of a key, all keys being below m
 module _ (key : ℕ → ℕ) (n m : ℕ) (all : (i : ℕ) → i < n → key i < m) (l : List ℕ) (sorted : take n l ≡ ordered key m (upto n)) where

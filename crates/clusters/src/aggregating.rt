@@ -68,7 +68,7 @@ fn cluster_from(t: Sums) -> Cluster
         p: t.p.over(t.area),
         n: normal_from(t.n),
         area: t.area,
-        radius: float::sqrt(t.area / 3.1415927),
+        radius: float::sqrt(t.area / std::f32::consts::PI),
     }
 }
 

@@ -13,14 +13,13 @@ use accept::{Refusal, at_most, bounds, coordinates, floats_within, holds, requir
 pub fn check(surfels: &Surfels, cut: Cut, lengths: Lengths) -> Result<(), Refusal>
     ensures { result ≡ check surfels.now cut.lo cut.hi cut.res lengths }
 {
-    let few = at_most(surfels.n, MAX_SURFELS);
-    let sized = voxels_fit(cut);
-    let lent = surfels_hold(surfels) & lengths.hold(surfels.n);
-    let floats = floats_fit(surfels);
-    require(few, Refusal::Count)?;
-    require(sized, Refusal::Range)?;
-    require(lent, Refusal::Length)?;
-    require(floats, Refusal::Float)
+    require(at_most(surfels.n, MAX_SURFELS), Refusal::Count)?;
+    require(voxels_fit(cut), Refusal::Range)?;
+    require(
+        surfels_hold(surfels) & lengths.hold(surfels.n),
+        Refusal::Length,
+    )?;
+    require(floats_fit(surfels), Refusal::Float)
 }
 
 // Whether the box and the resolution are in their range.

@@ -18,6 +18,8 @@ pub struct Columns<'a> {
 }
 
 // How long the columns and the scratch are.
+// Kept: lengths beside the columns, since of slices behind a `&Columns` the checker still knows how long
+// they are and no longer what they hold: tried, that a refused call leaves them didn't close.
 #[derive(Clone, Copy)]
 pub struct Lengths {
     pub p: usize,

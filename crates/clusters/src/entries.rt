@@ -1,14 +1,15 @@
-// The public entry: it refuses the call by document 01's number and then writes nothing, or makes
-// the clusters.
+// The public entry: it answers why the call is refused and then writes nothing, or makes the clusters.
 ghost use Rattle.std.specs.Prelude.{◌≡◌, length};
 ghost use Rattle.vector.specs.Flat.{KeptFrom};
 ghost use Rattle.clusters.specs.Answers.{build_clusters_answer, scratch_open};
 ghost use Rattle.clusters.specs.Left.{columns_held, columns_after};
 
-use crate::building::build;
+use crate::aggregating::{Groups, aggregate};
 use crate::checks::check;
 use crate::columns::{Columns, Lengths};
+use crate::grouping::group;
 use crate::keys::voxels_of;
+use crate::sorting::sort;
 use crate::surfels::{Divided, Surfels};
 use crate::{Clustered, Cut};
 use accept::Refusal;
@@ -55,14 +56,14 @@ pub fn build_clusters(
         surfels: surfels.lent(),
         voxels: voxels_of(cut),
     };
-    let columns = Columns {
-        p,
-        n,
-        area,
-        radius,
+    sort(&divided, order, spare);
+    let made = group(&divided, order, first, count, member);
+    let groups = Groups {
+        made: made.clusters,
         first,
         count,
         member,
     };
-    Ok(build(&divided, columns, order, spare))
+    aggregate(&divided, &groups, p, n, area, radius);
+    Ok(made)
 }

@@ -63,12 +63,10 @@ fn run_end(d: &Divided, order: &[u32], at: usize) -> usize
 {
     let n = d.len();
     let c = surfel_key(d, wide(order[at]));
-    for k in at + 1..n {
-        if surfel_key(d, wide(order[k])) != c {
-            return k;
-        }
-    }
-    n
+    order[at + 1..n]
+        .iter()
+        .position(|i| surfel_key(d, wide(*i)) != c)
+        .map_or(n, |k| at + 1 + k)
 }
 
 // The sums of members, in their order.

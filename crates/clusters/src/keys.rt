@@ -79,14 +79,11 @@ pub fn surfel_key(d: &Divided, i: usize) -> usize
 }
 
 // The vector number i of a flat slice.
-// Kept: `vector::at` would test each place, and a loop over surfels indexes without tests.
 pub fn vector_at(s: &[f32], i: usize) -> Vec3
     requires { 3 * i + 2 < length s.now }
     ensures { result ≡ vec_at s.now i }
 {
-    Vec3 {
-        x: s[3 * i],
-        y: s[3 * i + 1],
-        z: s[3 * i + 2],
-    }
+    let (vectors, _) = s.as_chunks::<3>();
+    let [x, y, z] = vectors[i];
+    Vec3 { x, y, z }
 }

@@ -1,10 +1,9 @@
 // Clusters: surfels of one voxel whose normals point along one axis, taken together as one emitter.
 //
-// The entry refuses by document 01's numbers. No public function has a `requires`.
+// The entry answers why a call is refused, as a `Refusal`. No public function has a `requires`.
 #![tactic(auto)]
 
 mod aggregating;
-mod building;
 mod checks;
 mod columns;
 mod entries;
