@@ -115,6 +115,9 @@ module _ (scene : Scene) (s : Spacing) (target : ℕ) where
     pub counted : count ≡ length (keep i)
     pub few : count ≤ target
     pub stored : p ≡ written (point_at (keep i)) count p₀
+    pub long : length p ≡ length p₀
+    pub celled : length head ≡ length head₀
+    pub linked : length next ≡ length next₀
     pub chains : Chains s count p head next
     pub head_past : drop (cells (dims_in s)) head ≡ drop (cells (dims_in s)) head₀
     pub next_past : drop target next ≡ drop target next₀
@@ -128,6 +131,9 @@ module _ (scene : Scene) (s : Spacing) (target : ℕ) where
           counted = refl;
           few = omega arith;
           stored = written_none (point_at []) p₀;
+          long = refl;
+          celled = refl;
+          linked = refl;
           chains =
               record {
                 points = omega arith;
@@ -142,11 +148,11 @@ module _ (scene : Scene) (s : Spacing) (target : ℕ) where
     module _ {i count : ℕ} {p : List Float} {head next : List ℕ} (h : SoFar p₀ head₀ next₀ i count p head next) where
       -- the next seed tried, while fewer are kept than are asked for
       pub one_more : {r : ℕ} {q : List Float} {head' next' : List ℕ} → count < target
-          → (r, q) ≡ tried s count p (landed scene s (i + 1)) → Chains s r q head' next'
+          → (r, q) ≡ tried s count p (landed scene s (i + 1)) → Chains s r q head' next' → length q ≡ length p → length head' ≡ length head → length next' ≡ length next
           → drop (cells (dims_in s)) head' ≡ drop (cells (dims_in s)) head → drop (count + 1) next' ≡ drop (count + 1) next
           → SoFar p₀ head₀ next₀ (i + 1) r q head' next'
       unfolding kept
-      one_more {r} {q} {head'} {next'} l e c hp np =
+      one_more {r} {q} {head'} {next'} l e c lp lh ln hp np =
           let t = stepped s target (keep i) p₀ h.counted l w.points h.stored (landed scene s (suc i)) in
           let n : i + 1 ≡ suc i = add-one i in
           let f : (r, q) ≡ tried s count p (landed scene s (suc i)) = rw n at e in
@@ -157,6 +163,9 @@ module _ (scene : Scene) (s : Spacing) (target : ℕ) where
             counted = t₀ ∙ t.counted;
             few = omega (arith, t₀, t.few_still);
             stored = t₁ ∙ t.stored ∙ ap (λ (k : ℕ). written (point_at (keep (suc i))) k p₀) (sym t₀);
+            long = lp ∙ h.long;
+            celled = lh ∙ h.celled;
+            linked = ln ∙ h.linked;
             chains = c;
             head_past = hp ∙ h.head_past;
             next_past = past_later (count + 1) target next' next (omega arith) np ∙ h.next_past;

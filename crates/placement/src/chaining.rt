@@ -14,6 +14,8 @@ use seeds::Spacing;
 use vector::Vec3;
 
 // The points kept so far, the first `count` of p, and their chains.
+// Kept: lent anew for each seed, to be read: tried as one value whose slices are written; its ghost field
+// must hold at each write, and one point more writes `head` and `count` in turn (`invariant_of-self`).
 #[derive(Drop)]
 pub struct Kept<'a> {
     pub s: Spacing,
@@ -32,8 +34,7 @@ impl Kept<'_> {
         ensures { result ≡ vacant (key_of self.now.s (vec_at self.now.p.now)) (λ j. closer self.now.s at (vec_at self.now.p.now j)) c self.now.count }
     {
         let mut link = wide(self.head[c]);
-        while link > 0 {
-            let j = link - 1;
+        while let Some(j) = link.checked_sub(1) {
             if closer(self.s, at, vector::at(self.p, j)) {
                 return false;
             }

@@ -1,5 +1,4 @@
-// The public entry: it refuses the call by document 01's tests and then writes nothing, or places
-// the surfels.
+// The public entry: it answers why the call is refused and then writes nothing, or places the surfels.
 ghost use Rattle.std.specs.Prelude.{◌≡◌, length};
 ghost use Rattle.vector.specs.Flat.{KeptFrom};
 ghost use Rattle.placement.specs.Lent.{columns_in, columns_out};
@@ -12,8 +11,8 @@ use accept::Refusal;
 
 // Places surfels on the surface of a scene, as many as are asked for at most, and answers how many they
 // are. They have no light yet.
-// Kept: the columns and the scratch are slices one by one, here and in what is called, since a struct of
-// slices that are written would be taken apart and put together again at each call, as `clusters::Columns` is.
+// Kept: the columns and the scratch are slices one by one: of a struct of slices that are written, handed
+// on whole, the checker knows how long they then are and not what they hold (tried in clusters).
 pub fn generate(
     request: &Request,
     p: &mut [f32],

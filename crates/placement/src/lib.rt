@@ -1,7 +1,7 @@
 // Surfels placed on the surface of a scene: seeds in order, each kept where it lands on the surface
 // and no surfel kept before it is too close.
 //
-// The entry refuses by document 01's numbers. No public function has a `requires`.
+// The entry answers why a call is refused, as a `Refusal`. No public function has a `requires`.
 #![tactic(auto)]
 
 ghost use Rattle.placement.specs.Lent.{Request as LentRequest, request_of};

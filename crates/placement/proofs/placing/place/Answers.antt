@@ -34,7 +34,7 @@ loop-i-preserved c =
     let t = ap (λ (o : Request). o.target) c.request.view_is in
     let u = c.try_seed-count in
     let e = u.ensures.p_after ∙ ap (λ (o : Request). tried a.s c.loop-i.count c.loop-i.p (landed o.scene a.s (c.loop-i.i + 1))) c.request.view_is in
-    one_more r.scene a.s r.target (emptied_held c.requires c.cells.ensures c.clear.ensures) h (omega (arith, c.if-count-request.false, t, h.few)) e u.ensures.chains_2 u.ensures.kept_from u.ensures.kept_from_2
+    one_more r.scene a.s r.target (emptied_held c.requires c.cells.ensures c.clear.ensures) h (omega (arith, c.if-count-request.false, t, h.few)) e u.ensures.chains_2 u.auto.p u.auto.head u.auto.next u.ensures.kept_from u.ensures.kept_from_2
 
 pub returns-clause-p_after : goal.returns-clause-p_after
 returns-clause-p_after c =

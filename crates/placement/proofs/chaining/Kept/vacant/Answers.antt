@@ -9,33 +9,36 @@ use Rattle.placement.specs.Chains.{key_of}
 use Rattle.placement.proofs.Chained.{search_begins, search_found, search_goes, search_ends}
 use Rattle.placement.proofs.chaining.Kept.vacant.Goals as goal
 
-pub loop-link-init : goal.loop-link-init
-loop-link-init c =
+pub loop-j-init : goal.loop-j-init
+loop-j-init c =
     search_begins (key_of c.args.self.now.s (vec_at c.args.self.now.p.now)) (λ j. closer c.args.self.now.s c.args.at (vec_at c.args.self.now.p.now j)) c.args.c _ c.args.self.now.count c.args.self.now.chained.chained c.requires c.wide-link.ensures
 
 pub returns-then-closer : goal.returns-then-closer
 returns-then-closer c =
     let k : ℕ → ℕ = key_of c.args.self.now.s (vec_at c.args.self.now.p.now) in
     let t : ℕ → Bool = λ j. closer c.args.self.now.s c.args.at (vec_at c.args.self.now.p.now j) in
-    let e = sym (c.closer.ensures ∙ ap (closer c.args.self.now.s c.args.at) c.at.ensures) ∙ c.if-closer.true in
-    sym (search_found k t c.args.c _ c.args.self.now.count c.args.self.now.chained.chained c.loop-link.invariant c.loop-link-test.true e)
+    let j = c.in-Some.ensures in
+    let e = rw j.1 at (sym (c.closer.ensures ∙ ap (closer c.args.self.now.s c.args.at) c.at.ensures) ∙ c.if-closer.true) in
+    sym (search_found k t c.args.c _ c.args.self.now.count c.args.self.now.chained.chained c.loop-j.invariant j.0 e)
 
-pub loop-link-smaller : goal.loop-link-smaller
-loop-link-smaller c =
+pub loop-j-smaller : goal.loop-j-smaller
+loop-j-smaller c =
     let k : ℕ → ℕ = key_of c.args.self.now.s (vec_at c.args.self.now.p.now) in
     let t : ℕ → Bool = λ j. closer c.args.self.now.s c.args.at (vec_at c.args.self.now.p.now j) in
-    let e = sym (c.closer.ensures ∙ ap (closer c.args.self.now.s c.args.at) c.at.ensures) ∙ c.if-closer.false in
-    (search_goes k t c.args.c _ c.args.self.now.count c.args.self.now.chained.chained c.loop-link.invariant c.loop-link-test.true e c.wide-link-in-loop-link.ensures).1
+    let j = c.in-Some.ensures in
+    let e = rw j.1 at (sym (c.closer.ensures ∙ ap (closer c.args.self.now.s c.args.at) c.at.ensures) ∙ c.if-closer.false) in
+    (search_goes k t c.args.c _ c.args.self.now.count c.args.self.now.chained.chained c.loop-j.invariant j.0 e (rw j.1 at c.wide-link-in-Some.ensures)).1
 
-pub loop-link-preserved : goal.loop-link-preserved
-loop-link-preserved c =
+pub loop-j-preserved : goal.loop-j-preserved
+loop-j-preserved c =
     let k : ℕ → ℕ = key_of c.args.self.now.s (vec_at c.args.self.now.p.now) in
     let t : ℕ → Bool = λ j. closer c.args.self.now.s c.args.at (vec_at c.args.self.now.p.now j) in
-    let e = sym (c.closer.ensures ∙ ap (closer c.args.self.now.s c.args.at) c.at.ensures) ∙ c.if-closer.false in
-    (search_goes k t c.args.c _ c.args.self.now.count c.args.self.now.chained.chained c.loop-link.invariant c.loop-link-test.true e c.wide-link-in-loop-link.ensures).0
+    let j = c.in-Some.ensures in
+    let e = rw j.1 at (sym (c.closer.ensures ∙ ap (closer c.args.self.now.s c.args.at) c.at.ensures) ∙ c.if-closer.false) in
+    (search_goes k t c.args.c _ c.args.self.now.count c.args.self.now.chained.chained c.loop-j.invariant j.0 e (rw j.1 at c.wide-link-in-Some.ensures)).0
 
 pub returns : goal.returns
 returns c =
     let k : ℕ → ℕ = key_of c.args.self.now.s (vec_at c.args.self.now.p.now) in
     let t : ℕ → Bool = λ j. closer c.args.self.now.s c.args.at (vec_at c.args.self.now.p.now j) in
-    sym (search_ends k t c.args.c _ c.args.self.now.count c.args.self.now.chained.chained c.loop-link.invariant (omega (arith, c.loop-link-test.false)))
+    sym (search_ends k t c.args.c _ c.args.self.now.count c.args.self.now.chained.chained c.loop-j.invariant (omega (arith, c.in_default.ensures)))
