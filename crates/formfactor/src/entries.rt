@@ -1,4 +1,4 @@
-// The public entry: it refuses the call by document 01's tests, or builds the rows.
+// The public entry: it answers why the call is refused, or builds the rows.
 ghost use Rattle.std.specs.Prelude.{◌≡◌, length};
 ghost use Rattle.vector.specs.Flat.{KeptFrom};
 ghost use Rattle.formfactor.specs.Lent.{diagonal, setting_with};
@@ -14,8 +14,8 @@ use vector::Vec3;
 // links from starts[i] up to starts[i + 1]. A row whose links do not fit the shorter of the two link
 // slices, of which at most 16,777,216 places are used, is answered with its number, after the rows
 // before it. Scratch holds one row at a time.
-// Kept: what is written are slices one by one, here and in what is called, since a struct of slices that
-// are written would be taken apart and put together again at each call, as `clusters::Columns` is.
+// Kept: what is written are slices one by one: of a struct of slices that are written, handed on whole,
+// the checker knows how long they then are and not what they hold (tried in clusters).
 pub fn build(
     scene: &Scene,
     lo: Vec3,

@@ -2,7 +2,8 @@
 //
 // A row is made in three steps: its raw links, one for each cluster that the surfel faces and sees;
 // its target, the part of the hemisphere above it that meets a surface; and the scaling of the links
-// to that target. The entry refuses by document 01's numbers. No public function has a `requires`.
+// to that target. The entry answers why a call is refused, or which row did not fit, as a
+// `BuildError`. No public function has a `requires`.
 #![tactic(auto)]
 
 ghost use Rattle.std.specs.Prelude.{◌≡◌};

@@ -13,6 +13,8 @@ use scene::opening::hemisphere_closure;
 
 impl Setting<'_> {
     // The row of surfel a: its links stand in link and weight from place 0 on.
+    // Kept: two slices and a count: tried as one struct that links are pushed to; the row closed, and what
+    // the slices hold when `build_rows` returns did not (`returns-clause-kept_from`).
     pub fn make_row(&self, a: Receiver, link: &mut [u32], weight: &mut [f32]) -> RowMade
         requires { ScratchHeld self.now.emitters.nc link.old weight.old }
         ensures row_standing { RowStanding (row_of self.now.scene self.now.diag a (cluster_at self.now.emitters) self.now.emitters.nc) result link weight }

@@ -1,7 +1,7 @@
 // What an accepted call makes its rows from.
 ghost use Rattle.std.specs.Prelude.{◌≡◌, ◌+◌, ◌*◌, ◌<◌, length};
 ghost use Rattle.formfactor.specs.Lent.{receiver_at, cluster_at};
-ghost use Rattle.formfactor.specs.Needs.{EmittersHeld, SurfelsHeld};
+ghost use Rattle.formfactor.specs.Needs.{EmittersHeld};
 
 use crate::{Emitters, Surfels};
 use clusters::Cluster;
@@ -32,10 +32,8 @@ impl<'a> Model for Setting<'a> {
 }
 
 impl Surfels<'_> {
-    // Surfel i.
+    // Surfel i; its floats past the columns are NaN.
     pub(crate) fn receiver_at(&self, i: usize) -> Receiver
-        requires held { SurfelsHeld self.now.n self.now.p self.now.normals }
-        requires i_lt_n { i < self.now.n }
         ensures { result ≡ receiver_at self.now.p self.now.normals i }
     {
         Receiver {
