@@ -28,12 +28,10 @@ pub fn reset(
 pub fn check(light: &[f32], direct: usize, irr: usize, rad: usize) -> Result<(), Refusal>
     ensures { result ≡ check light.now direct irr rad }
 {
-    let within = lists_within(light.len(), direct, irr, rad);
-    let equal = lengths_equal(light.len(), direct, irr, rad);
-    let floats = floats_within(light, light.len(), 1, 0.0, MAX_AMOUNT);
-    require(within, Refusal::Count)?;
-    require(equal, Refusal::Length)?;
-    require(floats, Refusal::Float)
+    let n = light.len();
+    require(lists_within(n, direct, irr, rad), Refusal::Count)?;
+    require(lengths_equal(n, direct, irr, rad), Refusal::Length)?;
+    require(floats_within(light, n, 1, 0.0, MAX_AMOUNT), Refusal::Float)
 }
 
 // Whether no list has more floats than the most surfels take.

@@ -22,16 +22,13 @@ pub fn check(
 ) -> Result<(), Refusal>
     ensures { result ≡ check room.now limit irr rad scratch }
 {
-    let counts = counts_within(room, limit);
+    require(counts_within(room, limit), Refusal::Count)?;
     let lent = surfels_hold(room, irr, rad)
         & clusters_hold(&room.clusters, scratch)
         & rows_hold(room.n, &room.rows);
-    let floats = floats_fit(room);
-    let numbers = numbers_fit(room);
-    require(counts, Refusal::Count)?;
     require(lent, Refusal::Length)?;
-    require(floats, Refusal::Float)?;
-    require(numbers, Refusal::Numbers)
+    require(floats_fit(room), Refusal::Float)?;
+    require(numbers_fit(room), Refusal::Numbers)
 }
 
 // Whether the counts and the limit of bounces are within theirs.
