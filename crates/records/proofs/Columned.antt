@@ -108,6 +108,11 @@ pub set_more : (light : List Float) (i : ℕ) (rs : List Light) → i < length r
 unfolding set_to
 set_more light i rs h = filled_put (light_at light) i rs refl h refl refl
 
+-- how many of n records are set, where a reset of them answers so
+abbrev pub set_count : Result Unit Refusal → ℕ → ℕ
+set_count (Ok u) n = n
+set_count (Err refusal) n = 0
+
 module _ (light : List Float) (rs : List Light) where
   -- a reset of them that is refused leaves them
   pub set_refused : {refusal : Refusal} → check_for light (length rs) ≡ Err refusal → left_in (Err refusal) rs ≡ reset_columns light rs
@@ -115,10 +120,10 @@ module _ (light : List Float) (rs : List Light) where
   set_refused e =
       rw (length_column (λ r. r.direct) rs, length_column (λ r. r.irr) rs, length_column (λ r. r.rad) rs, e)
 
-  -- once the last is set, they are what a reset of their columns leaves
-  pub all_set : check_for light (length rs) ≡ Ok tt → left_in (Ok tt) (set_to light (length rs) rs) ≡ reset_columns light rs
+  -- once the last is set, they are what a reset of their columns leaves where none is refused
+  pub set_done : check_for light (length rs) ≡ Ok tt → left_in (Ok tt) (set_to light (length rs) rs) ≡ reset_columns light rs
   unfolding check_for reset_answer set_to light_at
-  all_set e =
+  set_done e =
       let w = reset_lengths light (3 * length rs) (3 * length rs) (3 * length rs) e in
       let d = length_column (λ r. r.direct) rs in
       let i = length_column (λ r. r.irr) rs in
@@ -136,6 +141,14 @@ module _ (light : List Float) (rs : List Light) where
         q,
         e,
       )
+
+  set_by : (answer : Result Unit Refusal) → check_for light (length rs) ≡ answer → left_in answer (set_to light (set_count answer (length rs)) rs) ≡ reset_columns light rs
+  set_by (Ok tt) e = set_done e
+  set_by (Err refusal) e = rw (← set_none light rs) (set_refused e)
+
+  -- so as many as the answer tells, once set, are what a reset of their columns leaves, refused or not
+  pub all_set : left_in (check_for light (length rs)) (set_to light (set_count (check_for light (length rs)) (length rs)) rs) ≡ reset_columns light rs
+  all_set = set_by (check_for light (length rs)) refl
 
 -- ---- columns tell their records
 

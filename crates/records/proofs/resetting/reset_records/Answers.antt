@@ -4,7 +4,7 @@ use Prim.Native.Nat.{◌<◌}
 use borrow.Author.Rules.{rules}
 use lib.ListN.{length}
 use Rattle.std.proofs.lemmas.Result.{err_from_is_err_and}
-use Rattle.records.proofs.Columned.{set_none, set_more, set_refused, all_set}
+use Rattle.records.proofs.Columned.{set_none, set_more, set_refused, set_done}
 use Rattle.records.proofs.resetting.reset_records.Goals as goal
 
 pub returns-in_err-check : goal.returns-in_err-check
@@ -23,4 +23,4 @@ loop-i-preserved c =
 pub returns : goal.returns
 returns c =
     let e : c.loop-i.i ≡ length c.args.records.now = search rules in
-    rw (c.loop-i.invariant, e) (all_set _ _ (sym c.check.ensures ∙ c.in_ok-check.was))
+    rw (c.loop-i.invariant, e) (set_done _ _ (sym c.check.ensures ∙ c.in_ok-check.was))
