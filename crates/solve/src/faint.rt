@@ -10,11 +10,9 @@ use vector::Vec3;
 // 2^-60: a product of two floats from it on is not subnormal, nor is one of them divided by 1e12.
 const AMPLE: f32 = 8.6736174e-19;
 
-// Whether one of the first so many floats is faint.
-pub fn any_faint(s: &[f32], count: usize) -> bool
-    requires { count ≤ length s.now }
-{
-    s[..count].iter().any(|x| (0.0 < *x) & (*x < AMPLE))
+// Whether one of these floats is faint.
+pub fn any_faint(s: &[f32]) -> bool {
+    s.iter().any(|x| (0.0 < *x) & (*x < AMPLE))
 }
 
 // Whether a weight, an area or a channel of albedo of a room is faint.
@@ -23,9 +21,9 @@ pub fn faint_room(room: &Room) -> bool
     requires n_in_bounds { room.now.n ≤ length room.now.area }
     requires n_in_bounds_2 { 3 * room.now.n ≤ length room.now.albedo }
 {
-    any_faint(room.rows.weight, room.rows.links)
-        | any_faint(room.area, room.n)
-        | any_faint(room.albedo, 3 * room.n)
+    any_faint(&room.rows.weight[..room.rows.links])
+        | any_faint(&room.area[..room.n])
+        | any_faint(&room.albedo[..3 * room.n])
 }
 
 // Each component times k. `faint` tells whether one of these floats may be faint: the time depends on

@@ -34,8 +34,9 @@ pub fn run(
     let faint = faint_room(room);
     let mut change = 0.0;
     for bounces in 0..most {
-        if stopped(bounces, change) {
-            return SolveStats { bounces, change };
+        let made = SolveStats { bounces, change };
+        if made.stopped() {
+            return made;
         }
         change = bounce(room, faint, irr, rad, light);
     }
@@ -58,19 +59,27 @@ fn bounce(room: &Room, faint: bool, irr: &mut [f32], rad: &mut [f32], light: &mu
 {
     let n = room.n;
     let nc = room.clusters.nc;
-    update_power(room, faint | any_faint(rad, 3 * n), rad, irr);
+    update_power(room, faint | any_faint(&rad[..3 * n]), rad, irr);
     update_clusters(room, rad, irr, light);
-    update_irr(room, faint | any_faint(light, 3 * nc), light, irr);
-    update_rad(room, faint | any_faint(irr, 3 * n), irr, rad)
+    update_irr(room, faint | any_faint(&light[..3 * nc]), light, irr);
+    update_rad(room, faint | any_faint(&irr[..3 * n]), irr, rad)
 }
 
-// Whether a run that made so many bounces stops early: it made one, and its last change is under
-// 0.0001.
-#[tactic(auto, unfolding(crate::specs::Runs::stopped))]
-fn stopped(bounces: usize, change: f32) -> bool
-    ensures { result ≡ stopped bounces change }
-{
-    (0 < bounces) & (change < 0.0001)
+impl SolveStats {
+    // Whether a run that made this stops early: it made a bounce, and its last change is under 0.0001.
+    #[tactic(auto, unfolding(crate::specs::Runs::stopped))]
+    fn stopped(self) -> bool
+        ensures { result ≡ stopped self.bounces self.change }
+    {
+        (0 < self.bounces) & (self.change < 0.0001)
+    }
+
+    // Whether a run that made this is settled: it stops early.
+    pub fn settled(self) -> bool
+        ensures { result ≡ settled self.bounces self.change }
+    {
+        self.stopped()
+    }
 }
 
 // Whether a run that made so many bounces is settled: it made one, and its last change is under
@@ -78,5 +87,5 @@ fn stopped(bounces: usize, change: f32) -> bool
 pub fn settled(bounces: usize, change: f32) -> bool
     ensures { result ≡ settled bounces change }
 {
-    stopped(bounces, change)
+    SolveStats { bounces, change }.settled()
 }
