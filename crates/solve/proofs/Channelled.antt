@@ -36,14 +36,11 @@ channel-zero (suc zero) h = refl
 channel-zero (suc (suc zero)) h = refl
 channel-zero (suc (suc (suc d))) h = absurd (no_fourth d h)
 
-pub channel_at : (l : List Float) (i d : ℕ) → d < 3 → float_at l (3 * i + d) ≡ channel d (vec_at l i)
-channel_at l i zero h = ap (float_at l) (place (3 * i))
-  where
-    place : (k : ℕ) → k + 0 ≡ k
-    place k = omega arith
-channel_at l i (suc zero) h = refl
-channel_at l i (suc (suc zero)) h = refl
-channel_at l i (suc (suc (suc d))) h = absurd (no_fourth d h)
+pub channel_at : (l : List Float) (d : ℕ) → d < 3 → float_at l d ≡ channel d (vec_at l 0)
+channel_at l zero h = refl
+channel_at l (suc zero) h = refl
+channel_at l (suc (suc zero)) h = refl
+channel_at l (suc (suc (suc d))) h = absurd (no_fourth d h)
 
 -- channel d of a sum, of no vector and with one more
 pub channel_none : (f : ℕ → Vec3) (d : ℕ) → d < 3 → 0f ≡ channel d (total f 0)

@@ -1,4 +1,5 @@
 -- The laws of the solve, for the proofs here and for callers.
+pub mod Chunked
 pub mod Channelled
 pub mod Lighted
 pub mod Fronts

@@ -1,8 +1,9 @@
 // The surfels' irr where a weight or the clusters' light is faint.
 ghost use Rattle.std.specs.Prelude.{◌≡◌, ◌+◌, ◌*◌, ◌<◌, ◌≤◌, length};
-ghost use Rattle.vector.specs.Flat.{vec_at, written};
+ghost use Rattle.vector.specs.Flat.{written};
 ghost use Rattle.vector.specs.Fold.{total};
 ghost use Rattle.solve.specs.Channels.{channel};
+ghost use Rattle.solve.specs.Held.{triple};
 ghost use Rattle.solve.specs.Lit.{rows_lit};
 ghost use Rattle.solve.specs.Bounce.{link_light, row_light};
 
@@ -17,7 +18,7 @@ impl LitRows<'_> {
     pub fn faint_irr(&self, irr: &mut [f32])
         requires { 3 * self.now.n ≤ length irr.old }
         ensures { irr.new
-            ≡ written (row_light (rows_lit self.now) (vec_at self.now.light.now)) self.now.n irr.old }
+            ≡ written (row_light (rows_lit self.now) (triple self.now.light.now)) self.now.n irr.old }
     {
         for i in 0..self.n {
             let from = wide(self.starts[i]);
@@ -29,7 +30,7 @@ impl LitRows<'_> {
     // The sum over so many links from one of them on, channel by channel.
     fn faint_row(&self, from: usize, count: usize) -> Vec3
         requires { from + count ≤ self.now.links }
-        ensures { result ≡ total (λ j. link_light (rows_lit self.now) (vec_at self.now.light.now) (from + j)) count }
+        ensures { result ≡ total (λ j. link_light (rows_lit self.now) (triple self.now.light.now) (from + j)) count }
     {
         Vec3 {
             x: self.faint_channel(from, count, 0),
@@ -44,7 +45,7 @@ impl LitRows<'_> {
         requires count_bound { from + count ≤ self.now.links }
         requires d_bound { d < 3 }
         ensures { result
-            ≡ channel d (total (λ j. link_light (rows_lit self.now) (vec_at self.now.light.now) (from + j)) count) }
+            ≡ channel d (total (λ j. link_light (rows_lit self.now) (triple self.now.light.now) (from + j)) count) }
     {
         let mut sum = 0.0;
         for j in 0..count {
@@ -57,9 +58,9 @@ impl LitRows<'_> {
     fn faint_link(&self, k: usize, d: usize) -> f32
         requires k_bound { k < self.now.links }
         requires d_bound { d < 3 }
-        ensures { result ≡ channel d (link_light (rows_lit self.now) (vec_at self.now.light.now) k) }
+        ensures { result ≡ channel d (link_light (rows_lit self.now) (triple self.now.light.now) k) }
     {
         let c = wide(self.cluster[k]);
-        subnormal::product(self.light[3 * c + d], self.weight[k])
+        subnormal::product(self.light[c][d], self.weight[k])
     }
 }

@@ -2,26 +2,24 @@
 ghost use Rattle.std.specs.Prelude.{◌≡◌, ◌+◌, ◌*◌, ◌<◌, ◌≤◌, length};
 ghost use Rattle.vector.specs.Flat.{vec_at, written};
 ghost use Rattle.vector.specs.Fold.{total};
-ghost use Rattle.accept.specs.Tables.{number_at};
-ghost use Rattle.transfer.specs.Room.{rows_of};
 ghost use Rattle.solve.specs.Bounce.{link_light, row_light};
+ghost use Rattle.solve.specs.Held.{RowsLit, triple};
 ghost use Rattle.transfer.specs.Needs.{RowsHeld};
 
 use accept::wide;
 use transfer::Room;
 use vector::Vec3;
 
-// The rows of n surfels, each link with its weight and the light of one of nc clusters.
+// The rows of n surfels, each link with its weight and a cluster, and each cluster's light.
 #[derive(Clone, Copy)]
 pub struct LitRows<'a> {
     pub n: usize,
-    pub nc: usize,
     pub links: usize,
     pub starts: &'a [u32],
     pub cluster: &'a [u32],
     pub weight: &'a [f32],
-    pub light: &'a [f32],
-    pub ghost held: { RowsHeld n nc (rows_of links starts.now cluster.now weight.now) light.now },
+    pub light: &'a [[f32; 3]],
+    pub ghost lit: { RowsLit n links starts.now cluster.now weight.now (length light.now) },
 }
 
 // What two rows bring.
@@ -38,9 +36,9 @@ pub fn update_irr(room: &Room, faint: bool, light: &[f32], irr: &mut [f32])
     requires n_in_bounds { 3 * room.now.n ≤ length irr.old }
     ensures { irr.new ≡ written (row_light room.now.rows (vec_at light.now)) room.now.n irr.old }
 {
+    let (light, _) = light.as_chunks::<3>();
     let rows = LitRows {
         n: room.n,
-        nc: room.clusters.nc,
         links: room.rows.links,
         starts: room.rows.starts,
         cluster: room.rows.cluster,
@@ -62,7 +60,7 @@ impl LitRows<'_> {
     fn ample_irr(&self, irr: &mut [f32])
         requires { 3 * self.now.n ≤ length irr.old }
         ensures { irr.new
-            ≡ written (row_light (rows_lit self.now) (vec_at self.now.light.now)) self.now.n irr.old }
+            ≡ written (row_light (rows_lit self.now) (triple self.now.light.now)) self.now.n irr.old }
     {
         let middle = self.n / 2;
         let turns = self.n - middle;
@@ -79,8 +77,8 @@ impl LitRows<'_> {
     fn two_rows(&self, i: usize, k: usize) -> TwoRows
         requires i_lt_n { i < self.now.n }
         requires k_lt_n { k < self.now.n }
-        ensures first_value { result.first ≡ row_light (rows_lit self.now) (vec_at self.now.light.now) i }
-        ensures second_value { result.second ≡ row_light (rows_lit self.now) (vec_at self.now.light.now) k }
+        ensures first_value { result.first ≡ row_light (rows_lit self.now) (triple self.now.light.now) i }
+        ensures second_value { result.second ≡ row_light (rows_lit self.now) (triple self.now.light.now) k }
     {
         let a = wide(self.starts[i]);
         let b = wide(self.starts[k]);
@@ -99,9 +97,9 @@ impl LitRows<'_> {
         requires count_bound { a + count ≤ self.now.links }
         requires count_bound_2 { b + count ≤ self.now.links }
         ensures first_value { result.first
-            ≡ total (λ j. link_light (rows_lit self.now) (vec_at self.now.light.now) (a + j)) count }
+            ≡ total (λ j. link_light (rows_lit self.now) (triple self.now.light.now) (a + j)) count }
         ensures second_value { result.second
-            ≡ total (λ j. link_light (rows_lit self.now) (vec_at self.now.light.now) (b + j)) count }
+            ≡ total (λ j. link_light (rows_lit self.now) (triple self.now.light.now) (b + j)) count }
     {
         let mut first = Vec3::zero();
         let mut second = Vec3::zero();
@@ -118,8 +116,8 @@ impl LitRows<'_> {
         requires summed_le_count { summed ≤ count }
         requires count_bound { from + count ≤ self.now.links }
         requires so_far_value { so_far
-            ≡ total (λ j. link_light (rows_lit self.now) (vec_at self.now.light.now) (from + j)) summed }
-        ensures { result ≡ total (λ j. link_light (rows_lit self.now) (vec_at self.now.light.now) (from + j)) count }
+            ≡ total (λ j. link_light (rows_lit self.now) (triple self.now.light.now) (from + j)) summed }
+        ensures { result ≡ total (λ j. link_light (rows_lit self.now) (triple self.now.light.now) (from + j)) count }
     {
         let mut sum = so_far;
         for j in summed..count {
@@ -131,10 +129,18 @@ impl LitRows<'_> {
     // What link k brings: the light of its cluster times its weight.
     fn link_light(&self, k: usize) -> Vec3
         requires { k < self.now.links }
-        ensures { result ≡ link_light (rows_lit self.now) (vec_at self.now.light.now) k }
+        ensures { result ≡ link_light (rows_lit self.now) (triple self.now.light.now) k }
     {
-        vec_at(self.light, wide(self.cluster[k])).scaled(self.weight[k])
+        vector_of(self.light[wide(self.cluster[k])]).scaled(self.weight[k])
     }
+}
+
+// The vector of three floats.
+fn vector_of(floats: [f32; 3]) -> Vec3
+    ensures { result ≡ vec_at floats 0 }
+{
+    let [x, y, z] = floats;
+    Vec3 { x, y, z }
 }
 
 // The vector number i of a flat slice.

@@ -1,11 +1,11 @@
 -- `solve::rows::LitRows::row_light` meets its contract. The loop has summed what the first j links bring. Assumes nothing.
 use mathlib.Core.Path.{◌≡◌}
 use Prim.Native.Nat.{◌+◌}
-use Rattle.vector.specs.Flat.{vec_at}
 use Rattle.vector.specs.Fold.{total}
+use Rattle.solve.specs.Held.{triple}
 use Rattle.solve.specs.Lit.{rows_lit}
 use Rattle.solve.specs.Bounce.{link_light}
 use Rattle.solve.proofs.rows.LitRows.row_light.Given as goal
 
 abbrev pub invariant-loop-j : goal.invariant-loop-j
-invariant-loop-j l = l.sum ≡ total (λ k. link_light (rows_lit l.self) (vec_at l.self.light.now) (l.from + k)) l.j
+invariant-loop-j l = l.sum ≡ total (λ k. link_light (rows_lit l.self) (triple l.self.light.now) (l.from + k)) l.j
