@@ -14,8 +14,8 @@ use file::RoomFile;
 // of area; clusters one of area and their range of members; starts has one number more than surfels;
 // links have a cluster and a weight; probes three floats of each.
 //
-// Kept: the columns stay fourteen slices, as C lends them, since a struct of slices that are written
-// would be taken apart and put together again at each call.
+// Kept: fourteen slices, as C lends them. Each caller would make a struct of them for this call alone, and
+// each function that takes it by `&mut` ensure that each of its fourteen fields keeps its `ghost_name`.
 pub fn room_read(
     bytes: &[u8],
     p: &mut [f32],

@@ -1,6 +1,7 @@
 // A room file read into lent columns.
 //
-// The entry refuses by document 01's numbers. No public function has a `requires`.
+// The entry answers what stands beside the columns, or why it refuses the file, and then writes
+// nothing. No public function has a `requires`.
 #![tactic(auto)]
 
 mod entries;
