@@ -9,13 +9,14 @@ use Rattle.float.specs.Column.{float_at}
 use Rattle.float.specs.Order.{greater}
 use Rattle.vector.specs.declared.Vec3.{Vec3}
 use Rattle.vector.specs.Flat.{vec_at, components, written}
-use Rattle.vector.specs.Vector.{plus, zero_vec, scaled}
+use Rattle.vector.specs.Vector.{plus, zero_vec, scaled, over}
 use Rattle.vector.proofs.Replaced.{replaced_again, at_written, written_same}
 use Rattle.vector.proofs.Sums.{fold_same}
 use Rattle.accept.specs.Tables.{number_at}
 use Rattle.transfer.specs.Room.{Room, Light, light_of}
-use Rattle.solve.specs.Bounce.{member_light, cluster_light, link_light, row_light, rad_of, new_irr, new_rad, bounce, step, greatest_step, change}
+use Rattle.solve.specs.Bounce.{least_area, member_light, cluster_light, link_light, row_light, rad_of, new_irr, new_rad, bounce, step, greatest_step, change}
 use Rattle.transfer.specs.Needs.{Accepted}
+use Rattle.solve.specs.Held.{cluster_light_of}
 
 -- the clusters' light that a bounce from the light l starts with
 abbrev pub clusters_light : Room → Light → ℕ → Vec3
@@ -34,6 +35,21 @@ module _ {r : Room} {l : Light} {s power : List Float} (ok : Accepted r l s) (st
   -- and nothing of it is left once as many vectors are written over it
   pub over_power : (f : ℕ → Vec3) {irr : List Float} → irr ≡ written f r.n power → irr ≡ written f r.n l.irr
   over_power f e = rw (e, stored) (written_again f (member_light r.area l.rad) r.n l.irr)
+
+  -- so each cluster's light by that power is its light
+  cluster_agrees : (c : ℕ) → c < r.clusters.nc → cluster_light_of r.clusters (vec_at power) c ≡ clusters_light r l c
+  unfolding cluster_light_of cluster_light
+  cluster_agrees c h =
+      let cs = r.clusters in
+      let held = ok.clusters_held in
+      let from = number_at cs.first c in
+      let end = held.inside c h in
+      ap (λ (v : Vec3). over v (greater (float_at cs.area c) least_area))
+      (fold_same plus zero_vec _ _ _ (λ j k. power_at (number_at cs.member (from + j)) (held.each.below (from + j) (omega (arith, end, k)))))
+
+  -- and so what is stored by that power is the clusters' light
+  pub clusters_stored : (s₀ : List Float) {light : List Float} → light ≡ written (cluster_light_of r.clusters (vec_at power)) r.clusters.nc s₀ → light ≡ written (clusters_light r l) r.clusters.nc s₀
+  clusters_stored s₀ e = e ∙ written_same _ (clusters_light r l) r.clusters.nc s₀ cluster_agrees
 
 -- a room that is accepted, and `light`, the list s with its clusters' light stored
 module _ {r : Room} {l : Light} {s light : List Float} (ok : Accepted r l s) (stored : light ≡ written (clusters_light r l) r.clusters.nc s) where

@@ -1,5 +1,5 @@
 -- Vectors of a flat slice that is read three floats at a time. Assumes nothing.
-use mathlib.Core.List.{List, []}
+use mathlib.Core.List.{List}
 use mathlib.Core.Path.{◌≡◌, ap, ◌∙◌}
 use Prim.Native.Nat.{ℕ, zero, suc, ◌+◌, ◌*◌, ◌/◌, ◌<◌, ◌≤◌}
 use native.Mathlib.Omega.{arith}
@@ -15,9 +15,8 @@ use Rattle.vector.proofs.Replaced.{written_same}
 use Rattle.vector.proofs.Sums.{fold_same}
 use Rattle.accept.specs.Tables.{number_at}
 use Rattle.transfer.specs.Room.{Rows}
-use Rattle.transfer.specs.Needs.{RowsHeld}
 use Rattle.solve.specs.Bounce.{link_light, row_light}
-use Rattle.solve.specs.Held.{triple}
+use Rattle.solve.specs.Held.{RowsLit, triple}
 
 same : {a b c x y z : Float} → a ≡ x → b ≡ y → c ≡ z → vec a b c ≡ vec x y z
 same p q r = rw (p, q, r)
@@ -35,26 +34,27 @@ triple_at zero l c h = absurd (omega arith)
 triple_at (suc k) l zero h = same (get_or-take 3 l 0 nan (omega arith)) (get_or-take 3 l 1 nan (omega arith)) (get_or-take 3 l 2 nan (omega arith))
 triple_at (suc k) l (suc c) h = triple_at k (drop 3 l) c (omega arith) ∙ later l c
 
+-- and so is the vector read from one of so many triples
+pub read_at : (l : List Float) {triples : List (List Float)} {n i : ℕ} {v : Vec3}
+    → triples ≡ first_chunks 3 (length l / 3) l → 3 * n ≤ length l → i < n → v ≡ triple triples i → v ≡ vec_at l i
+read_at l {i = i} e held h f = f ∙ rw e (triple_at (length l / 3) l i (omega arith))
+
 -- so each link of rows whose clusters are among them brings the light of the flat list
-links_triple : {n nc : ℕ} {rs : Rows} {light : List Float} → RowsHeld n nc rs light → (d : ℕ) → nc ≤ d
-    → (k : ℕ) → k < rs.links → link_light rs (triple (first_chunks 3 d light)) k ≡ link_light rs (vec_at light) k
-links_triple {rs = rs} {light = light} held d few k h =
-    let c = number_at rs.cluster k in
-    ap (λ (v : Vec3). scaled v (float_at rs.weight k)) (triple_at d light c (omega (arith, few, held.each.below k h)))
+module _ {n nc : ℕ} {rs : Rows} (light : List Float) (lit : RowsLit n rs.links rs.starts rs.cluster rs.weight nc) (held : 3 * nc ≤ length light) where
+  links_triple : (k : ℕ) → k < rs.links → link_light rs (triple (first_chunks 3 (length light / 3) light)) k ≡ link_light rs (vec_at light) k
+  links_triple k h =
+      let c = number_at rs.cluster k in
+      ap (λ (v : Vec3). scaled v (float_at rs.weight k)) (triple_at (length light / 3) light c (omega (arith, lit.below k h)))
 
-rows_triple : {n nc : ℕ} {rs : Rows} {light : List Float} → RowsHeld n nc rs light → (d : ℕ) → nc ≤ d
-    → (i : ℕ) → i < n → row_light rs (triple (first_chunks 3 d light)) i ≡ row_light rs (vec_at light) i
-unfolding row_light
-rows_triple {rs = rs} held d few i h =
-    let up = held.rising i h in
-    let end = held.inside (i + 1) (omega arith) in
-    fold_same plus zero_vec _ _ _ (λ j k. links_triple held d few (number_at rs.starts i + j) (omega (arith, k, up, end)))
+  rows_triple : (i : ℕ) → i < n → row_light rs (triple (first_chunks 3 (length light / 3) light)) i ≡ row_light rs (vec_at light) i
+  unfolding row_light
+  rows_triple i h =
+      let up = lit.rising i h in
+      let end = lit.inside (i + 1) (omega arith) in
+      fold_same plus zero_vec _ _ _ (λ j k. links_triple (number_at rs.starts i + j) (omega (arith, k, up, end)))
 
--- and what they write is what those that read the flat list write
-pub written_triple : {n nc : ℕ} {rs : Rows} {light : List Float} {triples : List (List Float)} (irr : List Float) {left : List Float}
-    → RowsHeld n nc rs light → triples ≡ first_chunks 3 (length light / 3) light → left ≡ written (row_light rs (triple triples)) n irr
-    → left ≡ written (row_light rs (vec_at light)) n irr
-written_triple {n} {nc} {rs} {light} irr held e f =
-    let h = held.each.lights in
-    let few : nc ≤ length light / 3 = omega arith in
-    f ∙ rw e (written_same _ (row_light rs (vec_at light)) n irr (rows_triple held (length light / 3) few))
+  -- and what they write is what those that read the flat list write
+  pub written_triple : {triples : List (List Float)} (irr : List Float) {left : List Float}
+      → triples ≡ first_chunks 3 (length light / 3) light → left ≡ written (row_light rs (triple triples)) n irr
+      → left ≡ written (row_light rs (vec_at light)) n irr
+  written_triple irr e f = f ∙ rw e (written_same _ (row_light rs (vec_at light)) n irr rows_triple)

@@ -1,9 +1,12 @@
 -- The light of one cluster and of one row, and the greatest step with one vector more: what the loops over clusters and surfels cite. Assumes nothing.
 use mathlib.Core.List.{List}
-use mathlib.Core.Path.{◌≡◌, ◌∙◌}
-use Prim.Native.Nat.{ℕ, ◌+◌, ◌-◌, ◌<◌}
+use mathlib.Core.Path.{◌≡◌, ap, ◌∙◌}
+use Prim.Native.Nat.{ℕ, ◌+◌, ◌-◌, ◌*◌, ◌/◌, ◌<◌, ◌≤◌}
 use native.Mathlib.Omega.{arith}
 use lib.Ieee.{Float}
+use lib.ListN.{length, take, drop, length-take, length-drop}
+use lib.Seq.{get_or-drop, get_or-take}
+use Rattle.std.specs.Simd.{first_chunks}
 use Rattle.float.specs.Arithmetic.{0f}
 use Rattle.float.specs.Column.{float_at}
 use Rattle.float.specs.Order.{greater}
@@ -14,31 +17,36 @@ use Rattle.vector.specs.Vector.{plus, zero_vec, over}
 use Rattle.vector.proofs.Sums.{fold_none, fold_more, fold_same}
 use Rattle.accept.specs.Tables.{number_at}
 use Rattle.transfer.specs.Room.{Clusters, Rows}
-use Rattle.transfer.specs.Needs.{ClustersHeld}
-use Rattle.solve.specs.Bounce.{least_area, member_light, cluster_light, link_light, row_light, step, greatest_step}
+use Rattle.solve.specs.Held.{ClustersListed, cluster_light_of, triple}
+use Rattle.solve.proofs.Chunked.{triple_at}
+use Rattle.solve.specs.Bounce.{least_area, link_light, row_light, step, greatest_step}
 
--- the sum s over the members from `from` on, divided by the larger of the area and 1e-12, is the cluster's light
-pub cluster_light_by : (cs : Clusters) (area rad : List Float) (c : ℕ) {from count : ℕ} {s v : Vec3} {d : Float}
+-- the sum s over a cluster's members, which stand from `from` up to `from + count`, divided by the larger of its area and 1e-12, is its light by that power
+pub cluster_light_by : (cs : Clusters) (power : List Float) {n : ℕ} → ClustersListed n cs → 3 * n ≤ length power → (c : ℕ) → c < cs.nc
+    → {from count : ℕ} {triples : List (List Float)} {s v : Vec3} {d : Float}
     → from ≡ number_at cs.first c
     → count ≡ number_at cs.count c
-    → s ≡ total (λ j. member_light area rad (number_at cs.member (from + j))) count
+    → triples ≡ first_chunks 3 (length power / 3) power
+    → s ≡ total (λ j. triple triples (number_at (take (from + count - from) (drop from cs.member)) j)) (length (take (from + count - from) (drop from cs.member)))
     → d ≡ greater (float_at cs.area c) least_area
     → v ≡ over s d
-    → v ≡ cluster_light cs area rad c
-unfolding cluster_light
-cluster_light_by cs area rad c p q r e f = rw (f, e, r, p, q)
-
--- the sum of the power of a cluster's members is that of their light, where each surfel's power is its light
-pub power_summed : {n : ℕ} (cs : Clusters) (area rad power : List Float) → ClustersHeld n cs area rad
-    → ((i : ℕ) → i < n → vec_at power i ≡ member_light area rad i)
-    → (c : ℕ) → c < cs.nc → {from count : ℕ} {s : Vec3}
-    → from ≡ number_at cs.first c
-    → count ≡ number_at cs.count c
-    → s ≡ total (λ j. vec_at power (number_at cs.member (from + j))) count
-    → s ≡ total (λ j. member_light area rad (number_at cs.member (from + j))) count
-power_summed cs area rad power held each c h {from} p q r =
-    let end = held.inside c h in
-    r ∙ fold_same plus zero_vec _ _ _ (λ j k. each (number_at cs.member (from + j)) (held.each.below (from + j) (omega (arith, end, p, q, k))))
+    → v ≡ cluster_light_of cs (vec_at power) c
+unfolding cluster_light_of
+cluster_light_by cs power {n} listed held c h {from} {count} p q t r e f =
+    let end = listed.inside c h in
+    let m = from + count - from in
+    let l = take m (drop from cs.member) in
+    let first = number_at cs.first c in
+    let chunks = first_chunks 3 (length power / 3) power in
+    let long : length l ≡ number_at cs.count c = simp (length-take, length-drop) (omega (arith, p, q, end, listed.members)) in
+    let each : (j : ℕ) → j < number_at cs.count c → triple chunks (number_at l j) ≡ vec_at power (number_at cs.member (first + j)) = λ j k.
+    let few : j < m = omega (arith, q, k) in
+    let here : number_at l j ≡ number_at cs.member (first + j) =
+    get_or-take m (drop from cs.member) j 0 few ∙ get_or-drop from cs.member j 0 ∙ ap (λ (i : ℕ). number_at cs.member (i + j)) p in
+    let below = listed.below (first + j) (omega (arith, end, k)) in
+    ap (triple chunks) here ∙ triple_at (length power / 3) power (number_at cs.member (first + j)) (omega (arith, below, held))
+    in
+    rw (f, e, r, t, long, fold_same plus zero_vec _ _ (number_at cs.count c) each)
 
 -- the sum s over the links from one start up to the next is what the row brings
 pub row_light_by : (rs : Rows) (light : ℕ → Vec3) (i : ℕ) {from to : ℕ} {s : Vec3}

@@ -13,8 +13,8 @@ use transfer::{Room, check};
 // light that each surfel then gives off, and scratch, three floats a cluster, the clusters' light of
 // the last bounce. If no bounce is made, all three stay as lent.
 //
-// Kept: irr, rad and scratch, which are written, stay parameters, since a struct of slices that are written
-// would be taken apart and put together again at each call, as `clusters::Columns` is.
+// Kept: irr, rad and scratch stay parameters. Each caller would make a struct of them for this call alone,
+// and each function that takes it by `&mut` ensure that each of its fields keeps its `ghost_name`.
 pub fn solve(
     room: &Room,
     limit: usize,

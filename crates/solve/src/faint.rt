@@ -1,8 +1,9 @@
 // Products and quotients in good time where light is faint: above 0 and below 2^-60. With such a float
 // a product or quotient may have a subnormal operand or result, which takes some processors sixty
 // times as long.
-ghost use Rattle.std.specs.Prelude.{◌≡◌, ◌*◌, ◌≤◌, length};
+ghost use Rattle.std.specs.Prelude.{◌≡◌};
 ghost use Rattle.vector.specs.Vector.{scaled, times, over};
+ghost use Rattle.solve.specs.Held.{RoomHeld};
 
 use transfer::Room;
 use vector::Vec3;
@@ -17,9 +18,7 @@ pub fn any_faint(s: &[f32]) -> bool {
 
 // Whether a weight, an area or a channel of albedo of a room is faint.
 pub fn faint_room(room: &Room) -> bool
-    requires links_in_bounds { room.now.rows.links ≤ length room.now.rows.weight }
-    requires n_in_bounds { room.now.n ≤ length room.now.area }
-    requires n_in_bounds_2 { 3 * room.now.n ≤ length room.now.albedo }
+    requires { RoomHeld room.now }
 {
     any_faint(&room.rows.weight[..room.rows.links])
         | any_faint(&room.area[..room.n])
@@ -28,7 +27,8 @@ pub fn faint_room(room: &Room) -> bool
 
 // Each component times k. `faint` tells whether one of these floats may be faint: the time depends on
 // it, and nothing else.
-// Kept: a flag and no closure, since both ways give the same bits and the contract knows one product.
+// Kept: a flag for each product. A trait for the two products takes two types, two impls, `scaled` and
+// `times` written out over it, and a choice of the type in power.rt and in surfels.rt.
 pub fn scaled(faint: bool, v: Vec3, k: f32) -> Vec3
     ensures { result ≡ scaled v k }
 {

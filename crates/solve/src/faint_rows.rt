@@ -13,7 +13,7 @@ use vector::Vec3;
 
 // Kept: rows of faint light have a loop of their own: one loop with this product for both took 1.3 times
 // as long there, and any room file is to be answered within a second.
-impl LitRows<'_> {
+impl LitRows<'_, '_> {
     // Every surfel's irr, in good time where something is faint.
     pub fn faint_irr(&self, irr: &mut [f32])
         requires { 3 * self.now.n ≤ length irr.old }

@@ -3,6 +3,7 @@
 // No public function has a `requires`.
 #![tactic(auto)]
 
+mod bouncing;
 mod clusters;
 mod entries;
 mod faint;
@@ -11,6 +12,7 @@ mod power;
 mod rows;
 mod running;
 mod surfels;
+mod triples;
 
 pub use entries::solve;
 pub use running::settled;

@@ -3,19 +3,23 @@ ghost use Rattle.std.specs.Prelude.{◌≡◌, ◌*◌, ◌≤◌, length};
 ghost use Rattle.vector.specs.Flat.{written};
 ghost use Rattle.solve.specs.Bounce.{member_light};
 
-use crate::faint::scaled;
-use crate::rows::vec_at;
-use transfer::Room;
+use crate::bouncing::Bouncing;
+use crate::faint::{any_faint, scaled};
+use crate::triples::vector_of;
 
-// Every surfel's power, into `power`. `faint` tells whether an area or a channel of rad may be faint.
-#[tactic(auto, using(vector::proofs::Replaced::written_none, vector::proofs::Replaced::written_put))]
-pub fn update_power(room: &Room, faint: bool, rad: &[f32], power: &mut [f32])
-    requires n_in_bounds { room.now.n ≤ length room.now.area }
-    requires n_in_bounds_2 { 3 * room.now.n ≤ length rad.now }
-    requires n_in_bounds_3 { 3 * room.now.n ≤ length power.old }
-    ensures { power.new ≡ written (member_light room.now.area rad.now) room.now.n power.old }
-{
-    for i in 0..room.n {
-        vector::put(power, i, scaled(faint, vec_at(rad, i), room.area[i]));
+impl Bouncing<'_> {
+    // Every surfel's power, into `power`.
+    pub fn update_power(&self, rad: &[f32], power: &mut [f32])
+        requires rad_held { 3 * self.now.room.now.n ≤ length rad.now }
+        requires power_held { 3 * self.now.room.now.n ≤ length power.old }
+        ensures { power.new ≡ written (member_light self.now.room.now.area rad.now) self.now.room.now.n power.old }
+    {
+        let room = self.room;
+        let n = room.n;
+        let faint = self.faint | any_faint(&rad[..3 * n]);
+        let (rads, _) = rad.as_chunks::<3>();
+        for i in 0..n {
+            vector::put(power, i, scaled(faint, vector_of(rads[i]), room.area[i]));
+        }
     }
 }

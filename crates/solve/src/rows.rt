@@ -4,21 +4,22 @@ ghost use Rattle.vector.specs.Flat.{vec_at, written};
 ghost use Rattle.vector.specs.Fold.{total};
 ghost use Rattle.solve.specs.Bounce.{link_light, row_light};
 ghost use Rattle.solve.specs.Held.{RowsLit, triple};
-ghost use Rattle.transfer.specs.Needs.{RowsHeld};
 
+use crate::bouncing::Bouncing;
+use crate::faint::any_faint;
+use crate::triples::vector_of;
 use accept::wide;
-use transfer::Room;
 use vector::Vec3;
 
 // The rows of n surfels, each link with its weight and a cluster, and each cluster's light.
 #[derive(Clone, Copy)]
-pub struct LitRows<'a> {
+pub struct LitRows<'r, 'l> {
     pub n: usize,
     pub links: usize,
-    pub starts: &'a [u32],
-    pub cluster: &'a [u32],
-    pub weight: &'a [f32],
-    pub light: &'a [[f32; 3]],
+    pub starts: &'r [u32],
+    pub cluster: &'r [u32],
+    pub weight: &'r [f32],
+    pub light: &'l [[f32; 3]],
     pub ghost lit: { RowsLit n links starts.now cluster.now weight.now (length light.now) },
 }
 
@@ -29,30 +30,35 @@ pub struct TwoRows {
     pub second: Vec3,
 }
 
-// Every surfel's irr: what its row brings of the clusters' light. `faint` tells whether a weight or a
-// channel of that light may be faint: the time depends on it, and nothing else.
-pub fn update_irr(room: &Room, faint: bool, light: &[f32], irr: &mut [f32])
-    requires rows_held { RowsHeld room.now.n room.now.clusters.nc room.now.rows light.now }
-    requires n_in_bounds { 3 * room.now.n ≤ length irr.old }
-    ensures { irr.new ≡ written (row_light room.now.rows (vec_at light.now)) room.now.n irr.old }
-{
-    let (light, _) = light.as_chunks::<3>();
-    let rows = LitRows {
-        n: room.n,
-        links: room.rows.links,
-        starts: room.rows.starts,
-        cluster: room.rows.cluster,
-        weight: room.rows.weight,
-        light,
-    };
-    if faint {
-        rows.faint_irr(irr);
-    } else {
-        rows.ample_irr(irr);
+impl Bouncing<'_> {
+    // Every surfel's irr: what its row brings of the clusters' light.
+    pub fn update_irr(&self, light: &[f32], irr: &mut [f32])
+        requires light_held { 3 * self.now.room.now.clusters.nc ≤ length light.now }
+        requires irr_held { 3 * self.now.room.now.n ≤ length irr.old }
+        ensures { irr.new
+            ≡ written (row_light self.now.room.now.rows (vec_at light.now)) self.now.room.now.n irr.old }
+    {
+        let room = self.room;
+        let faint = self.faint | any_faint(&light[..3 * room.clusters.nc]);
+        let (lights, _) = light.as_chunks::<3>();
+        let rows = &room.rows;
+        let lit = LitRows {
+            n: room.n,
+            links: rows.links,
+            starts: rows.starts,
+            cluster: rows.cluster,
+            weight: rows.weight,
+            light: lights,
+        };
+        if faint {
+            lit.faint_irr(irr);
+        } else {
+            lit.ample_irr(irr);
+        }
     }
 }
 
-impl LitRows<'_> {
+impl LitRows<'_, '_> {
     ghost use Rattle.solve.specs.Lit.{rows_lit};
 
     // Every surfel's irr, in the least time where nothing is faint. Two rows are summed in a turn, one
@@ -132,26 +138,5 @@ impl LitRows<'_> {
         ensures { result ≡ link_light (rows_lit self.now) (triple self.now.light.now) k }
     {
         vector_of(self.light[wide(self.cluster[k])]).scaled(self.weight[k])
-    }
-}
-
-// The vector of three floats.
-fn vector_of(floats: [f32; 3]) -> Vec3
-    ensures { result ≡ vec_at floats 0 }
-{
-    let [x, y, z] = floats;
-    Vec3 { x, y, z }
-}
-
-// The vector number i of a flat slice.
-// Kept: `vector::at` would test each place, and a loop over links indexes without tests.
-pub fn vec_at(s: &[f32], i: usize) -> Vec3
-    requires { 3 * i + 2 < length s.now }
-    ensures { result ≡ vec_at s.now i }
-{
-    Vec3 {
-        x: s[3 * i],
-        y: s[3 * i + 1],
-        z: s[3 * i + 2],
     }
 }

@@ -8,17 +8,11 @@ ghost use Rattle.solve.specs.Answers.{run_of};
 ghost use Rattle.transfer.specs.Needs.{Accepted};
 
 use crate::SolveStats;
-use crate::clusters::update_clusters;
-use crate::faint::{any_faint, faint_room};
-use crate::power::update_power;
-use crate::rows::update_irr;
-use crate::surfels::update_rad;
+use crate::bouncing::Bouncing;
+use crate::faint::faint_room;
 use transfer::Room;
 
 // A run of at most limit bounces, in a room that was accepted.
-//
-// Kept: that the room was accepted is required, since a type for it would leave each function the lengths
-// of irr, rad and light to ask for, and a line to reach the room behind it.
 pub fn run(
     room: &Room,
     limit: usize,
@@ -31,14 +25,17 @@ pub fn run(
     ensures light_after { light.new ≡ clusters_after room.now result.bounces (light_in irr rad) light.old }
 {
     let most = if room.clusters.nc == 0 { 0 } else { limit };
-    let faint = faint_room(room);
+    let bouncing = Bouncing {
+        room,
+        faint: faint_room(room),
+    };
     let mut change = 0.0;
     for bounces in 0..most {
         let made = SolveStats { bounces, change };
         if made.stopped() {
             return made;
         }
-        change = bounce(room, faint, irr, rad, light);
+        change = bouncing.bounce(irr, rad, light);
     }
     SolveStats {
         bounces: most,
@@ -46,23 +43,21 @@ pub fn run(
     }
 }
 
-// One bounce: the clusters' light goes into `light`, irr and rad become new. The greatest absolute
-// step of any channel of rad. Until the rows are summed, irr holds the surfels' power. `faint`
-// tells whether a weight, an area or a channel of albedo is faint: the time depends on it, and nothing
-// else.
-fn bounce(room: &Room, faint: bool, irr: &mut [f32], rad: &mut [f32], light: &mut [f32]) -> f32
-    requires { Accepted room.now (light_of irr.old rad.old) light.old }
-    ensures rad_value { light_out irr rad ≡ bounce room.now (light_in irr rad) }
-    ensures value { result ≡ change room.now rad.old }
-    ensures light_after { light.new
-        ≡ written (cluster_light room.now.clusters room.now.area rad.old) room.now.clusters.nc light.old }
-{
-    let n = room.n;
-    let nc = room.clusters.nc;
-    update_power(room, faint | any_faint(&rad[..3 * n]), rad, irr);
-    update_clusters(room, rad, irr, light);
-    update_irr(room, faint | any_faint(&light[..3 * nc]), light, irr);
-    update_rad(room, faint | any_faint(&irr[..3 * n]), irr, rad)
+impl Bouncing<'_> {
+    // One bounce: the clusters' light goes into `light`, irr and rad become new. The greatest absolute
+    // step of any channel of rad. Until the rows are summed, irr holds the surfels' power.
+    fn bounce(&self, irr: &mut [f32], rad: &mut [f32], light: &mut [f32]) -> f32
+        requires { Accepted self.now.room.now (light_of irr.old rad.old) light.old }
+        ensures rad_value { light_out irr rad ≡ bounce self.now.room.now (light_in irr rad) }
+        ensures value { result ≡ change self.now.room.now rad.old }
+        ensures light_after { light.new
+            ≡ written (cluster_light self.now.room.now.clusters self.now.room.now.area rad.old) self.now.room.now.clusters.nc light.old }
+    {
+        self.update_power(rad, irr);
+        self.update_clusters(irr, light);
+        self.update_irr(light, irr);
+        self.update_rad(irr, rad)
+    }
 }
 
 impl SolveStats {

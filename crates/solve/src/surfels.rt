@@ -1,42 +1,39 @@
 // The surfels' rad, from their irr.
-ghost use Rattle.std.specs.Prelude.{◌≡◌, ◌+◌, ◌*◌, ◌<◌, ◌≤◌, length};
+ghost use Rattle.std.specs.Prelude.{◌≡◌, ◌*◌, ◌<◌, ◌≤◌, length};
 ghost use Rattle.vector.specs.Flat.{vec_at, written};
 ghost use Rattle.solve.specs.Bounce.{rad_of, step, greatest_step};
 
-use crate::faint::times;
-use crate::rows::vec_at;
-use transfer::Room;
+use crate::bouncing::Bouncing;
+use crate::faint::{any_faint, times};
+use crate::triples::vector_of;
 use vector::Vec3;
 
-// Every surfel's rad, and the greatest absolute step of any channel of it. `faint` tells whether a
-// channel of albedo or irr may be faint.
-pub fn update_rad(room: &Room, faint: bool, irr: &[f32], rad: &mut [f32]) -> f32
-    requires n_in_bounds { 3 * room.now.n ≤ length room.now.albedo }
-    requires n_in_bounds_2 { 3 * room.now.n ≤ length room.now.direct }
-    requires n_in_bounds_3 { 3 * room.now.n ≤ length irr.now }
-    requires n_in_bounds_4 { 3 * room.now.n ≤ length rad.old }
-    ensures rad_after { rad.new
-        ≡ written (λ i. rad_of room.now.direct room.now.albedo i (vec_at irr.now i)) room.now.n rad.old }
-    ensures value { result
-        ≡ greatest_step (vec_at rad.old) (λ i. rad_of room.now.direct room.now.albedo i (vec_at irr.now i)) room.now.n }
-{
-    let mut change = 0.0;
-    for i in 0..room.n {
-        let arriving = vec_at(irr, i);
-        let new = rad_of(room, faint, i, arriving);
-        change = float::max(change, step(vec_at(rad, i), new));
-        vector::put(rad, i, new);
+impl Bouncing<'_> {
+    // Every surfel's rad, and the greatest absolute step of any channel of it.
+    pub fn update_rad(&self, irr: &[f32], rad: &mut [f32]) -> f32
+        requires irr_held { 3 * self.now.room.now.n ≤ length irr.now }
+        requires rad_held { 3 * self.now.room.now.n ≤ length rad.old }
+        ensures rad_after { rad.new
+            ≡ written (λ i. rad_of self.now.room.now.direct self.now.room.now.albedo i (vec_at irr.now i)) self.now.room.now.n rad.old }
+        ensures value { result
+            ≡ greatest_step (vec_at rad.old) (λ i. rad_of self.now.room.now.direct self.now.room.now.albedo i (vec_at irr.now i)) self.now.room.now.n }
+    {
+        let room = self.room;
+        let n = room.n;
+        let faint = self.faint | any_faint(&irr[..3 * n]);
+        let (irrs, _) = irr.as_chunks::<3>();
+        let (directs, _) = room.direct.as_chunks::<3>();
+        let (albedos, _) = room.albedo.as_chunks::<3>();
+        let mut change = 0.0;
+        for i in 0..n {
+            let arriving = vector_of(irrs[i]);
+            let reflected = times(faint, vector_of(albedos[i]), arriving);
+            let new = vector_of(directs[i]).plus(reflected);
+            change = float::max(change, step(vector::at(rad, i), new));
+            vector::put(rad, i, new);
+        }
+        change
     }
-    change
-}
-
-// The rad of surfel i that this irr gives.
-fn rad_of(room: &Room, faint: bool, i: usize, irr: Vec3) -> Vec3
-    requires i_in_bounds { 3 * i + 2 < length room.now.direct }
-    requires i_in_bounds_2 { 3 * i + 2 < length room.now.albedo }
-    ensures { result ≡ rad_of room.now.direct room.now.albedo i irr }
-{
-    vec_at(room.direct, i).plus(times(faint, vec_at(room.albedo, i), irr))
 }
 
 // The greatest absolute step of a channel.

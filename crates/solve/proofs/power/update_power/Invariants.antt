@@ -1,8 +1,0 @@
--- `solve::power::update_power` meets its contract. The loop has stored the power of the first i surfels. Assumes nothing.
-use mathlib.Core.Path.{◌≡◌}
-use Rattle.vector.specs.Flat.{written}
-use Rattle.solve.specs.Bounce.{member_light}
-use Rattle.solve.proofs.power.update_power.Given as goal
-
-abbrev pub invariant-loop-i : goal.invariant-loop-i
-invariant-loop-i l = l.power ≡ written (member_light l.room.area l.rad) l.i l.initial.power
