@@ -1,7 +1,7 @@
 // Products and quotients of vectors.
 //
-// Kept: three lines each, as those of `Vec3` are, since a product handed in would need its contract at each
-// call.
+// Kept: beside those of `Vec3`, which is of a crate beneath this one and multiplies as the processor does.
+// Over any product they would stand a third time, since both of these are public.
 ghost use Rattle.std.specs.Prelude.{◌≡◌};
 ghost use Rattle.vector.specs.Vector.{scaled, times, over};
 
