@@ -27,8 +27,8 @@ pub fn faint_room(room: &Room) -> bool
 
 // Each component times k. `faint` tells whether one of these floats may be faint: the time depends on
 // it, and nothing else.
-// Kept: a flag for each product. A trait for the two products takes two types, two impls, `scaled` and
-// `times` written out over it, and a choice of the type in power.rt and in surfels.rt.
+// Kept: a flag for each product. A trait for the two products was tried in power.rt: it proves, but takes two
+// types, two impls, `scaled` and `times` written out over it, and the clauses of `update_power` once more.
 pub fn scaled(faint: bool, v: Vec3, k: f32) -> Vec3
     ensures { result ≡ scaled v k }
 {

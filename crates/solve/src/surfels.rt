@@ -1,5 +1,5 @@
 // The surfels' rad, from their irr.
-ghost use Rattle.std.specs.Prelude.{◌≡◌, ◌*◌, ◌<◌, ◌≤◌, length};
+ghost use Rattle.std.specs.Prelude.{◌≡◌, ◌*◌, ◌≤◌, length};
 ghost use Rattle.vector.specs.Flat.{vec_at, written};
 ghost use Rattle.solve.specs.Bounce.{rad_of, step, greatest_step};
 
