@@ -1,13 +1,13 @@
 -- The solve of a file that is accepted: its columns are short, it is read in full, and a reset and a solve of its room leave the light of its run. Assumes nothing.
-use Rattle.std.specs.Prelude.{Ok}
+use Rattle.std.specs.Prelude.{Result, Ok}
+use Rattle.std.specs.Result.{IsOk, is_ok}
 use mathlib.Core.Bool.{true, and-eq-true_iff}
-use mathlib.Core.List.{List, [], ◌∷◌, ◌++◌}
+use mathlib.Core.List.{List, [], ◌∷◌}
 use mathlib.Core.Path.{◌≡◌, sym, ap, subst, ◌∙◌}
 use Prim.Native.Nat.{ℕ, ◌+◌, ◌*◌, ◌%◌, ◌≤◌}
 use native.Mathlib.Omega.{arith}
 use lib.Ieee.{Float}
 use lib.ListN.{length, take, replicate, length-replicate}
-use lib.Seq.{take_at}
 use borrow.Author.Tests.{le-leb, leb-true, eq-eqb}
 use Rattle.float.specs.Arithmetic.{0f}
 use Rattle.float.specs.Column.{float_at}
@@ -17,7 +17,6 @@ use Rattle.accept.specs.Refusal.{checked}
 use Rattle.accept.specs.Tables.{at_most, holds}
 use Rattle.accept.proofs.Bounded.{le_holds}
 use Rattle.accept.proofs.Every.{conj_each}
-use Rattle.std.specs.Prelude.{Result, Ok}
 use Rattle.accept.specs.declared.refusal.Refusal.{Refusal}
 use Rattle.reset.specs.Resetting.{reset_answer}
 use Rattle.reset.specs.Resetting.{check as reset_check}
@@ -134,15 +133,23 @@ solve_left_lem : (r : Room) (limit : ℕ) (l : Light) (s : List Float) {a : Resu
 unfolding solve_answer
 solve_left_lem r limit l s e p = let h = rw e at p in ap (λ (x : Result SolveStats Refusal × Light × List Float). run_of (made_by x.0) x.1) h
 
--- a solve of the file's room, from the light of a reset
-file_solved : (b : List ℕ) → report_check b ≡ Ok tt → (s : List Float) {a : Result SolveStats Refusal} {m : Light} {t : List Float} → length s ≡ 3 * (counts_in b).clusters
-    → (a, m, t) ≡ solve_answer (room_of_file b) (counts_in b).limit (start_light b) s → run_of (made_by a) m ≡ run_of_file b
-unfolding run_of_file start_light room_of_file
-file_solved b e s h p =
-    let c = counts_in b in
-    let i = length-replicate (3 * c.surfels) 0f in
-    let r = floats_length b (directs c) in
-    solve_left_lem (room_of_file b) c.limit (start_light b) s (rw (i, r, h) (solve_accepts b max_program_file (grid_fits (box_of_file b)) e)) p
+module _ (b : List ℕ) (e : report_check b ≡ Ok tt) (s : List Float) {a : Result SolveStats Refusal} {m : Light} {t : List Float} (h : length s ≡ 3 * (counts_in b).clusters)
+    (p : (a, m, t) ≡ solve_answer (room_of_file b) (counts_in b).limit (start_light b) s) where
+  -- a solve of the file's room, from the light of a reset, is not refused
+  solve_taken : let l = start_light b in check (room_of_file b) (counts_in b).limit (length l.irr) (length l.rad) (length s) ≡ Ok tt
+  unfolding start_light room_of_file
+  solve_taken =
+      let c = counts_in b in
+      rw (length-replicate (3 * c.surfels) 0f, floats_length b (directs c), h) (solve_accepts b max_program_file (grid_fits (box_of_file b)) e)
+
+  file_taken : IsOk a
+  unfolding solve_answer
+  file_taken = ap (λ (x : Result SolveStats Refusal × Light × List Float). is_ok x.0) (rw solve_taken at p)
+
+  -- and makes its run
+  file_solved : run_of (made_by a) m ≡ run_of_file b
+  unfolding run_of_file
+  file_solved = solve_left_lem (room_of_file b) (counts_in b).limit (start_light b) s solve_taken p
 
 -- ---- the columns that were read
 
@@ -153,6 +160,64 @@ pub record Widened (c : Counts) (n nc members links limit : ℕ) : Type 0 where
   pub members_wide : members ≡ c.members
   pub links_wide : links ≡ c.links
   pub limit_wide : limit ≡ c.limit
+
+-- a reset to the light that was read is not refused
+pub reset_done : (b : List ℕ) {c : Counts} {light direct irr rad albedo area light₁ d i r : List Float} {a : Result Unit Refusal} → report_check b ≡ Ok tt → c ≡ counts_in b
+    → SurfelsCut c light direct irr rad albedo area → light₁ ≡ floats_read b (directs c) light → (a, d, i, r) ≡ reset_answer light₁ direct irr rad → IsOk a
+unfolding reset_answer
+reset_done b {c} {light} {direct} {irr} {rad} e q surfels reads set =
+    let n : 3 * c.surfels ≡ 3 * (counts_in b).surfels = ap (λ (x : Counts). 3 * x.surfels) q in
+    let l = floats_in b directs light q (has_directs b _ (tests_passed b e).formed_passed (omega arith)) surfels.light_cut reads in
+    ap (λ (x : Result Unit Refusal × List Float × List Float × List Float). is_ok x.0)
+    (rw (reset_accepts b e _ (length direct) (length irr) (length rad) l (surfels.direct_cut ∙ n) (surfels.irr_cut ∙ n) (surfels.rad_cut ∙ n)) at set)
+
+module _ (b : List ℕ) {c : Counts} {light direct irr rad albedo area : List Float} {cluster_area : List Float} {first count member : List ℕ} {scratch : List Float}
+    {starts cluster : List ℕ} {weight : List Float} {albedo₁ area₁ light₁ clusterArea₁ : List Float} {first₁ count₁ member₁ starts₁ cluster₁ : List ℕ} {weight₁ : List Float}
+    {d i r : List Float} {a : Result Unit Refusal} {n nc k links limit : ℕ} {answer : Result SolveStats Refusal} {m : Light} {t : List Float} (e : report_check b ≡ Ok tt)
+    (q : c ≡ counts_in b) (surfels : SurfelsCut c light direct irr rad albedo area) (clusters : ClustersCut c cluster_area first count member scratch)
+    (rows : RowsCut c starts cluster weight)
+    (reads : (albedo₁ ≡ floats_read b (albedos c) albedo) × ((area₁ ≡ floats_read b (areas c) area) × (light₁ ≡ floats_read b (directs c) light)))
+    (reads₂ : (clusterArea₁ ≡ floats_read b (cluster_areas c) cluster_area)
+    × ((first₁ ≡ numbers_read b (firsts c) first) × ((count₁ ≡ numbers_read b (member_counts c) count) × (member₁ ≡ numbers_read b (members c) member))))
+    (reads₃ : (starts₁ ≡ numbers_read b (row_starts c) starts) × ((cluster₁ ≡ numbers_read b (link_clusters c) cluster) × (weight₁ ≡ floats_read b (link_weights c) weight)))
+    (set : (a, d, i, r) ≡ reset_answer light₁ direct irr rad) (w : Widened c n nc k links limit)
+    (solving : (answer, m, t)
+    ≡ solve_answer (room_of n albedo₁ area₁ d (clusters_of nc k clusterArea₁ first₁ count₁ member₁) (rows_of links starts₁ cluster₁ weight₁)) limit (light_of i r) scratch) where
+  scratch_cut : length scratch ≡ 3 * (counts_in b).clusters
+  scratch_cut = clusters.scratch_cut ∙ ap (λ (x : Counts). 3 * x.clusters) q
+
+  -- what was read and reset is the file's room, and its light before the first bounce
+  room_solved : (answer, m, t) ≡ solve_answer (room_of_file b) (counts_in b).limit (start_light b) scratch
+  unfolding start_light room_of_file clusters_of_file rows_of_file
+  room_solved =
+      let f = (tests_passed b e).formed_passed in
+      let g : max_program_file ≤ max_file = omega arith in
+      let n : 3 * c.surfels ≡ 3 * (counts_in b).surfels = ap (λ (x : Counts). 3 * x.surfels) q in
+      let l = floats_in b directs light q (has_directs b _ f g) surfels.light_cut reads.1.1 in
+      let left = reset_left_lem b e _ direct irr rad l (surfels.direct_cut ∙ n) (surfels.irr_cut ∙ n) (surfels.rad_cut ∙ n) set in
+      rw (
+        floats_in b albedos albedo q (has_albedos b _ f g) surfels.albedo_cut reads.0,
+        floats_in b areas area q (has_areas b _ f g) (omega (arith, surfels.area_cut)) reads.1.0,
+        floats_in b cluster_areas cluster_area q (has_cluster_areas b _ f g) (omega (arith, clusters.area_cut)) reads₂.0,
+        numbers_in b firsts first q (has_firsts b _ f g) clusters.first_cut reads₂.1.0,
+        numbers_in b member_counts count q (has_member_counts b _ f g) clusters.count_cut reads₂.1.1.0,
+        numbers_in b members member q (has_members b _ f g) clusters.member_cut reads₂.1.1.1,
+        numbers_in b row_starts starts q (has_row_starts b _ f g) rows.starts_cut reads₃.0,
+        numbers_in b link_clusters cluster q (has_link_clusters b _ f g) rows.cluster_cut reads₃.1.0,
+        floats_in b link_weights weight q (has_link_weights b _ f g) (omega (arith, rows.weight_cut)) reads₃.1.1,
+        left.0,
+        left.1,
+        left.2,
+        w.surfels_wide ∙ ap (λ (x : Counts). x.surfels) q,
+        w.clusters_wide ∙ ap (λ (x : Counts). x.clusters) q,
+        w.members_wide ∙ ap (λ (x : Counts). x.members) q,
+        w.links_wide ∙ ap (λ (x : Counts). x.links) q,
+        w.limit_wide ∙ ap (λ (x : Counts). x.limit) q,
+      ) at solving
+
+  -- so that the solve is not refused
+  pub solve_done : IsOk answer
+  solve_done = file_taken b e scratch scratch_cut room_solved
 
 -- columns of the length of their need, a file read into them, a reset and a solve
 pub solved : (b : List ℕ) {c : Counts} {light direct irr rad albedo area : List Float} {cluster_area : List Float} {first count member : List ℕ} {scratch : List Float}
@@ -167,49 +232,21 @@ pub solved : (b : List ℕ) {c : Counts} {light direct irr rad albedo area : Lis
     → (answer, m, t)
     ≡ solve_answer (room_of n albedo₁ area₁ d (clusters_of nc k clusterArea₁ first₁ count₁ member₁) (rows_of links starts₁ cluster₁ weight₁)) limit (light_of i r) scratch
     → made ≡ made_by answer → run_of made m ≡ run_of_file b
-unfolding start_light room_of_file clusters_of_file rows_of_file
-solved b {c} {light} {direct} {irr} {rad} {albedo} {area} {cluster_area} {first} {count} {member} {scratch} {starts} {cluster} {weight} e q surfels clusters rows reads reads₂ reads₃ set w
-    solving by_made =
-    let f = (tests_passed b e).formed_passed in
-    let g : max_program_file ≤ max_file = omega arith in
-    let n : 3 * c.surfels ≡ 3 * (counts_in b).surfels = ap (λ (x : Counts). 3 * x.surfels) q in
-    let nc : 3 * c.clusters ≡ 3 * (counts_in b).clusters = ap (λ (x : Counts). 3 * x.clusters) q in
-    let l = floats_in b directs light q (has_directs b _ f g) surfels.light_cut reads.1.1 in
-    let left = reset_left_lem b e _ direct irr rad l (surfels.direct_cut ∙ n) (surfels.irr_cut ∙ n) (surfels.rad_cut ∙ n) set in
-    let h =
-    rw (
-      floats_in b albedos albedo q (has_albedos b _ f g) surfels.albedo_cut reads.0,
-      floats_in b areas area q (has_areas b _ f g) (omega (arith, surfels.area_cut)) reads.1.0,
-      floats_in b cluster_areas cluster_area q (has_cluster_areas b _ f g) (omega (arith, clusters.area_cut)) reads₂.0,
-      numbers_in b firsts first q (has_firsts b _ f g) clusters.first_cut reads₂.1.0,
-      numbers_in b member_counts count q (has_member_counts b _ f g) clusters.count_cut reads₂.1.1.0,
-      numbers_in b members member q (has_members b _ f g) clusters.member_cut reads₂.1.1.1,
-      numbers_in b row_starts starts q (has_row_starts b _ f g) rows.starts_cut reads₃.0,
-      numbers_in b link_clusters cluster q (has_link_clusters b _ f g) rows.cluster_cut reads₃.1.0,
-      floats_in b link_weights weight q (has_link_weights b _ f g) (omega (arith, rows.weight_cut)) reads₃.1.1,
-      left.0,
-      left.1,
-      left.2,
-      w.surfels_wide ∙ ap (λ (x : Counts). x.surfels) q,
-      w.clusters_wide ∙ ap (λ (x : Counts). x.clusters) q,
-      w.members_wide ∙ ap (λ (x : Counts). x.members) q,
-      w.links_wide ∙ ap (λ (x : Counts). x.links) q,
-      w.limit_wide ∙ ap (λ (x : Counts). x.limit) q,
-    ) at solving
-    in
-    rw by_made (file_solved b e scratch (clusters.scratch_cut ∙ nc) h)
+solved b e q surfels clusters rows reads reads₂ reads₃ set w solving by_made =
+    rw by_made
+    (file_solved b e _ (scratch_cut b e q surfels clusters rows reads reads₂ reads₃ set w solving) (room_solved b e q surfels clusters rows reads reads₂ reads₃ set w solving))
 
 -- ---- columns cut from k places
 
 -- the columns of a solve, each of the length of its need
 module _ (c : Counts) (k : ℕ) (short : end_of c ≤ k) where
-  pub surfels_cut : {n : ℕ} → n ≡ c.surfels → let l = take (3 * n) (replicate k 0f) in SurfelsCut c l l l l l (take n (replicate k 0f))
-  surfels_cut {n} e =
+  pub surfels_cut : {n : ℕ} (irr : List Float) → n ≡ c.surfels → length irr ≡ 3 * c.surfels → let l = take (3 * n) (replicate k 0f) in SurfelsCut c l l irr l l (take n (replicate k 0f))
+  surfels_cut {n} irr e cut =
       let three : length (take (3 * n) (replicate k 0f)) ≡ 3 * c.surfels = cut-length k (3 * n) 0f (omega arith) ∙ ap (λ (m : ℕ). 3 * m) e in
       record {
         light_cut = three;
         direct_cut = three;
-        irr_cut = three;
+        irr_cut = cut;
         rad_cut = three;
         albedo_cut = three;
         area_cut = cut-length k n 0f (omega arith) ∙ e;
@@ -232,7 +269,3 @@ module _ (c : Counts) (k : ℕ) (short : end_of c ≤ k) where
     cluster_cut = cut-length k m 0 (omega arith) ∙ f;
     weight_cut = cut-length k m 0f (omega arith) ∙ f;
   }
-
-  -- the first of k places, lent and taken back
-  pub front_left : {n : ℕ} (l rest : List Float) → n ≡ c.surfels → length l ≡ length (take (3 * n) (replicate k 0f)) → take (3 * c.surfels) (l ++ rest) ≡ l
-  front_left {n} l rest e h = take_at l rest (3 * c.surfels) (h ∙ cut-length k (3 * n) 0f (omega arith) ∙ ap (λ (m : ℕ). 3 * m) e)

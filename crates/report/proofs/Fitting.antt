@@ -1,17 +1,14 @@
--- The lists of a file that is accepted fit the places of a program, and a list that was lent in part. Assumes nothing.
+-- The lists of a file that is accepted fit the places of a program, and columns cut from such places. Assumes nothing.
 use Rattle.std.specs.Prelude.{Ok}
-use mathlib.Core.List.{List, [], ◌∷◌, ◌++◌}
-use mathlib.Core.Path.{◌≡◌, refl, sym, ap, ◌∙◌}
+use mathlib.Core.List.{List, ◌∷◌}
+use mathlib.Core.Path.{◌≡◌, refl, ap, ◌∙◌}
 use Prim.Native.Nat.{ℕ, zero, suc, ◌+◌, ◌*◌, ◌≤◌, ◌<◌}
 use native.Mathlib.Omega.{arith}
 use lib.Ieee.{Float}
-use lib.ListN.{length, take, drop, replicate, length-replicate, take-append-drop}
+use lib.ListN.{length, take, replicate, length-replicate}
 use lib.Seq.{length-take-le}
 use borrow.Author.Tests.{ltb-true}
 use Rattle.float.specs.Arithmetic.{0f}
-use Rattle.vector.specs.declared.Vec3.{Vec3}
-use Rattle.vector.specs.Flat.{components, replaced, filled, written}
-use Rattle.vector.proofs.Replaced.{replaced_cut, rest_kept}
 use Rattle.accept.specs.Limits.{max_program_file}
 use Rattle.grid.specs.Cells.{dims_of, cells}
 use Rattle.file.specs.declared.Counts.{Counts}
@@ -36,13 +33,9 @@ module _ (b : List ℕ) (e : report_check b ≡ Ok tt) where
   pub counts_short : {c : Counts} → c ≡ counts_in b → end_of c ≤ 16384
   counts_short q = rw q end_fits
 
-  -- the starts of the grid, one more than its cells
-  pub starts_fit : {y : ProbeBox} {m : ℕ} → y ≡ box_of_file b → m ≡ cells (dims_of y.lo y.hi y.cell) → m + 1 ≤ 16384
-  starts_fit {y} p q =
-      let x = box_of_file b in
-      let h : cells (dims_of x.lo x.hi x.cell) < 16384 = ltb-true _ max_starts tests_passed.lent_passed in
-      let m-is = q ∙ ap (λ (z : ProbeBox). cells (dims_of z.lo z.hi z.cell)) p in
-      omega arith
+  -- the starts of the grid, one more than its cells, by the box that was handed
+  pub starts_fit : {x : ProbeBox} → x ≡ box_of_file b → cells (dims_of x.lo x.hi x.cell) < max_starts
+  starts_fit p = rw p (ltb-true _ max_starts tests_passed.lent_passed)
 
 -- ---- lists of equal elements, lent in part
 
@@ -54,42 +47,27 @@ take_replicate {A} (suc n) (suc m) a h = ap (λ (l : List A). a ∷ l) (take_rep
 pub cut-length : {A : Type 0} (m n : ℕ) (a : A) → n ≤ m → length (take n (replicate m a)) ≡ n
 cut-length m n a h = length-take-le n (replicate m a) (rw (length-replicate m a) h)
 
-pub front_length : {A : Type 0} (n m : ℕ) (a : A) → n ≤ m → n ≡ length (take n (replicate m a))
-front_length n m a h = sym (cut-length m n a h)
-
--- the columns that a reading is lent, each the front of a list of `top` places
+-- the columns of a reading, each the front of a list of `top` places
 pub grid_cut : (top : ℕ) {k : Counts} {y : ProbeBox} (irr : List Float) (n m : ℕ) → n ≡ k.surfels → m ≡ cells (dims_of y.lo y.hi y.cell)
-    → 3 * n ≤ top → m + 1 ≤ top → length irr ≡ top
-    → GridCut k y (take (3 * n) irr) (take (3 * n) (replicate top 0f)) (take (3 * n) (replicate top 0f)) (take (m + 1) (replicate top 0)) (take n (replicate top 0))
+    → 3 * n ≤ top → m + 1 ≤ top → length irr ≡ 3 * k.surfels
+    → GridCut k y irr (take (3 * n) (replicate top 0f)) (take (3 * n) (replicate top 0f)) (take (m + 1) (replicate top 0)) (take n (replicate top 0))
 grid_cut top irr n m p q h i l =
     let cut : length (take (3 * n) (replicate top 0f)) ≡ 3 * n = cut-length top (3 * n) 0f h in
     record {
-      irr_cut = length-take-le (3 * n) irr (omega arith) ∙ ap (λ (j : ℕ). 3 * j) p;
+      irr_cut = l;
       p_cut = cut ∙ ap (λ (j : ℕ). 3 * j) p;
       normals_cut = cut ∙ ap (λ (j : ℕ). 3 * j) p;
       starts_cut = take_replicate (m + 1) top 0 i ∙ ap (λ (j : ℕ). replicate (j + 1) 0) q;
       items_cut = take_replicate n top 0 (omega arith) ∙ ap (λ (j : ℕ). replicate j 0) p;
     }
 
-pub probes_cut : (top : ℕ) {k : Counts} (n : ℕ) → n ≡ k.probes → 3 * n ≤ top
-    → ProbesCut k (take (3 * n) (replicate top 0f)) (take (3 * n) (replicate top 0f)) (take n (replicate top 0)) (take (3 * n) (replicate top 0f))
-probes_cut top n p h =
+pub probes_cut : (top : ℕ) {k : Counts} (n : ℕ) {seen : List ℕ} {light : List Float} → n ≡ k.probes → 3 * n ≤ top → length seen ≡ k.probes → length light ≡ 3 * k.probes
+    → ProbesCut k (take (3 * n) (replicate top 0f)) (take (3 * n) (replicate top 0f)) seen light
+probes_cut top n p h s l =
     let cut : length (take (3 * n) (replicate top 0f)) ≡ 3 * n = cut-length top (3 * n) 0f h in
     record {
       p_cut = cut ∙ ap (λ (j : ℕ). 3 * j) p;
       normals_cut = cut ∙ ap (λ (j : ℕ). 3 * j) p;
-      seen_cut = cut-length {A = ℕ} top n 0 (omega arith) ∙ p;
-      light_cut = cut ∙ ap (λ (j : ℕ). 3 * j) p;
+      seen_cut = s;
+      light_cut = l;
     }
-
--- rows that were written into the front of a list are written into the list
-replaced_front : {A : Type 0} (w : ℕ) (row : ℕ → List A) → ((i : ℕ) → length (row i) ≡ w) → (n : ℕ) (l : List A)
-    → replaced w row n (take (w * n) l) ++ drop (w * n) l ≡ replaced w row n l
-replaced_front w row wide n l =
-    rw (replaced_cut w row wide n l, ← rest_kept w row wide n n l (omega arith)) (take-append-drop (w * n) (replaced w row n l))
-
-pub filled_front : {A : Type 0} (g : ℕ → A) (n m : ℕ) (l : List A) {s : List A} → m ≡ n → s ≡ filled g n (take m l) → s ++ drop m l ≡ filled g n l
-filled_front g n m l p q = let e : m ≡ 1 * n = omega arith in rw (q, e) (replaced_front 1 (λ i. g i ∷ []) (λ i. refl) n l)
-
-pub written_front : (g : ℕ → Vec3) (n m : ℕ) (l : List Float) {s : List Float} → m ≡ n → s ≡ written g n (take (3 * m) l) → s ++ drop (3 * m) l ≡ written g n l
-written_front g n m l p q = rw (q, p) (replaced_front 3 (λ i. components (g i)) (λ i. refl) n l)

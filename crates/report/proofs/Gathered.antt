@@ -1,5 +1,6 @@
 -- The readings of a file that is accepted: neither the build of its grid nor the reading of its probes is refused. Assumes nothing.
-use Rattle.std.specs.Prelude.{Ok}
+use Rattle.std.specs.Prelude.{Result, Ok}
+use Rattle.std.specs.Result.{IsOk, is_ok}
 use mathlib.Core.Bool.{true, ◌&&◌, and-eq-true_iff}
 use mathlib.Core.List.{List, [], ◌∷◌}
 use mathlib.Core.Path.{◌≡◌, ap, ◌∙◌}
@@ -9,7 +10,6 @@ use borrow.Author.Tests.{le-leb, lt-ltb}
 use lib.Dec.{leb, ltb}
 use lib.Ieee.{Float}
 use lib.ListN.{length, replicate, length-replicate}
-use Rattle.std.specs.Prelude.{Ok, Result}
 use Rattle.vector.specs.Flat.{filled, written}
 use Rattle.accept.specs.Every.{conj}
 use Rattle.accept.specs.Limits.{max_surfels, max_program_file}
@@ -123,6 +123,11 @@ module _ (b : List ℕ) (e : report_check b ≡ Ok tt) where
       let k = rw build_accepts at h in
       (ap (λ (t : Result Dims Refusal × List ℕ × List ℕ). t.1) k, ap (λ (t : Result Dims Refusal × List ℕ × List ℕ). t.2) k)
 
+  built_taken : {r : Result Dims Refusal} {starts items : List ℕ}
+      → (r, starts, items) ≡ grid_build_answer c.surfels (points_of_file b) x.lo x.hi x.cell zero_starts zero_items → IsOk r
+  unfolding grid_build_answer
+  built_taken h = ap (λ (t : Result Dims Refusal × List ℕ × List ℕ). is_ok t.0) (rw build_accepts at h)
+
   -- ---- the readings
 
   module _ (irr_cut : length (run_of_file b).light.irr ≡ 3 * c.surfels) (seen : List ℕ) (light : List Float) (seen_cut : length seen ≡ c.probes)
@@ -168,11 +173,52 @@ module _ (b : List ℕ) (e : report_check b ≡ Ok tt) where
         let k = rw gather_accepts at h in
         (ap (λ (t : Result Unit Refusal × List ℕ × List Float). t.1) k, ap (λ (t : Result Unit Refusal × List ℕ × List Float). t.2) k)
 
+    gathered_taken : {r : Result Unit Refusal} {numbers : List ℕ} {floats : List Float}
+        → (r, numbers, floats) ≡ gather_all_answer (grid_of_file b) (surfels_of_file b) (probes_of_file b) seen light → IsOk r
+    unfolding gather_all_answer
+    gathered_taken h = ap (λ (t : Result Unit Refusal × List ℕ × List Float). is_ok t.0) (rw gather_accepts at h)
+
 -- ---- what is read, built and gathered one after the other, in lists of their need
 
 module _ (b : List ℕ) (e : report_check b ≡ Ok tt) {k : Counts} {y : ProbeBox} {irr p₀ normals₀ probes₀ facing₀ light₀ : List Float} {starts₀ items₀ seen₀ : List ℕ}
     (counts : k ≡ counts_in b) (box : y ≡ box_of_file b) (solved : irr ≡ (run_of_file b).light.irr) (gridded : GridCut k y irr p₀ normals₀ starts₀ items₀)
     (probed : ProbesCut k probes₀ facing₀ seen₀ light₀) where
+  -- the build is one of the file's surfels, and not refused
+  module _ {n : ℕ} {p : List Float} {starts items : List ℕ} {r : Result Dims Refusal} (n-is : n ≡ k.surfels) (p-is : p ≡ floats_read b (points k) p₀)
+      (build : (r, starts, items) ≡ grid_build_answer n p y.lo y.hi y.cell starts₀ items₀) where
+    points_read : p ≡ points_of_file b
+    points_read = floats_in b points p₀ counts (has_points b max_program_file (tests_passed b e).formed_passed (omega arith)) gridded.p_cut p-is
+
+    file_built : (r, starts, items)
+        ≡ grid_build_answer (counts_in b).surfels (points_of_file b) (box_of_file b).lo (box_of_file b).hi (box_of_file b).cell (zero_starts b e) (zero_items b e)
+    file_built = let g = rw (counts, box) at gridded in rw (n-is, counts, box, points_read, g.starts_cut, g.items_cut) at build
+
+    pub build_done : IsOk r
+    build_done = built_taken b e file_built
+
+  -- the readings are those of the file's probes, and not refused
+  module _ {n count : ℕ} {p facing probes probes_facing light : List Float} {starts items seen : List ℕ} {r : Result Dims Refusal} {s : Result Unit Refusal}
+      (n-is : n ≡ k.surfels) (count_is : count ≡ k.probes) (p-is : p ≡ floats_read b (points k) p₀) (facing-is : facing ≡ floats_read b (normals k) normals₀)
+      (probes-are : probes ≡ floats_read b (probe_points k) probes₀) (probes-facing : probes_facing ≡ floats_read b (probe_normals k) facing₀)
+      (build : (r, starts, items) ≡ grid_build_answer n p y.lo y.hi y.cell starts₀ items₀)
+      (gather : (s, seen, light) ≡ gather_all_answer (grid_of n starts items y.lo y.hi y.cell) (surfels_of p facing irr)
+      (record { count = count; p = probes; normals = probes_facing; radius = y.radius }) seen₀ light₀) where
+    irr_held : length (run_of_file b).light.irr ≡ 3 * (counts_in b).surfels
+    irr_held = let g = rw counts at gridded in rw solved at g.irr_cut
+
+    file_gathered : (s, seen, light) ≡ gather_all_answer (grid_of_file b) (surfels_of_file b) (probes_of_file b) seen₀ light₀
+    unfolding grid_of_file surfels_of_file probes_of_file
+    file_gathered =
+        let f = (tests_passed b e).formed_passed in
+        let m = floats_in b normals normals₀ counts (has_normals b max_program_file f (omega arith)) gridded.normals_cut facing-is in
+        let q = floats_in b probe_points probes₀ counts (has_probe_points b max_program_file f (omega arith)) probed.p_cut probes-are in
+        let a = floats_in b probe_normals facing₀ counts (has_probe_normals b max_program_file f (omega arith)) probed.normals_cut probes-facing in
+        let lists = built_lists b e (file_built n-is p-is build) in
+        rw (n-is, count_is, counts, box, points_read n-is p-is build, m, q, a, solved, lists.0, lists.1) at gather
+
+    pub gather_done : IsOk s
+    gather_done = let d = rw counts at probed in gathered_taken b e irr_held seen₀ light₀ d.seen_cut d.light_cut file_gathered
+
   pub gathered : {n count : ℕ} {p facing probes probes_facing light : List Float} {starts items seen : List ℕ} {r : Result Dims Refusal} {s : Result Unit Refusal}
       → n ≡ k.surfels → count ≡ k.probes
       → p ≡ floats_read b (points k) p₀ → facing ≡ floats_read b (normals k) normals₀
@@ -181,16 +227,8 @@ module _ (b : List ℕ) (e : report_check b ≡ Ok tt) {k : Counts} {y : ProbeBo
       → (s, seen, light) ≡ gather_all_answer (grid_of n starts items y.lo y.hi y.cell) (surfels_of p facing irr)
       (record { count = count; p = probes; normals = probes_facing; radius = y.radius }) seen₀ light₀
       → (seen ≡ filled (λ i. seen_number (reading_of_file b i)) k.probes seen₀) × (light ≡ written (λ i. seen_light (reading_of_file b i)) k.probes light₀)
-  unfolding grid_of_file surfels_of_file probes_of_file
   gathered n-is count_is p-is facing-is probes-are probes-facing build gather =
-      let f = (tests_passed b e).formed_passed in
-      let p = floats_in b points p₀ counts (has_points b max_program_file f (omega arith)) gridded.p_cut p-is in
-      let m = floats_in b normals normals₀ counts (has_normals b max_program_file f (omega arith)) gridded.normals_cut facing-is in
-      let q = floats_in b probe_points probes₀ counts (has_probe_points b max_program_file f (omega arith)) probed.p_cut probes-are in
-      let a = floats_in b probe_normals facing₀ counts (has_probe_normals b max_program_file f (omega arith)) probed.normals_cut probes-facing in
-      let g = rw (counts, box) at gridded in
       let d = rw counts at probed in
-      let lists = built_lists b e (rw (n-is, counts, box, p, g.starts_cut, g.items_cut) at build) in
       rw counts
-      (gathered_lists b e (rw solved at g.irr_cut) seen₀ light₀ d.seen_cut d.light_cut
-      (rw (n-is, count_is, counts, box, p, m, q, a, solved, lists.0, lists.1) at gather))
+      (gathered_lists b e (irr_held n-is count_is p-is facing-is probes-are probes-facing build gather) seen₀ light₀ d.seen_cut d.light_cut
+      (file_gathered n-is count_is p-is facing-is probes-are probes-facing build gather))

@@ -4,16 +4,15 @@ use Rattle.accept.specs.Refusal.{number_of}
 use Rattle.accept.specs.declared.refusal.Refusal.{Refusal}
 use mathlib.Core.Bool.{cond}
 use mathlib.Core.List.{List, ◌++◌}
-use mathlib.Core.Path.{◌≡◌, refl, sym, ap}
-use Prim.Native.Nat.{ℕ, ◌+◌, ◌≤◌}
+use mathlib.Core.Path.{◌≡◌, refl, ap}
+use Prim.Native.Nat.{ℕ, ◌≤◌}
 use native.Mathlib.Omega.{arith}
 use lib.Dec.{eqb}
 use lib.Ieee.{Float}
-use lib.ListN.{length, drop, replicate, length-append}
+use lib.ListN.{length, drop, length-append}
 use lib.Seq.{sets}
-use Rattle.float.specs.Arithmetic.{0f}
 use Rattle.vector.specs.Flat.{rows, filled, written}
-use Rattle.vector.proofs.Stored.{sets_front, sets_front_append}
+use Rattle.vector.proofs.Stored.{sets_front}
 use Rattle.accept.specs.Limits.{max_program_file}
 use Rattle.surfel.specs.Answers.{seen_number, seen_light}
 use Rattle.solve.specs.Runs.{settled}
@@ -76,17 +75,11 @@ pub report_stored : (b text t : List ℕ) {e : List ℕ} {r : ℕ} → max_repor
 report_stored b text t h p q s = (rw (p, q) (sets_front text t (omega (arith, report_fits b, ap length p))), rw (p, s))
 
 -- the first two lines, and after them those of the probes, are the lines of the file
-pub lines_stored : (b text : List ℕ) {c : Counts} {bounces n : ℕ} {change : Float} {seen : List ℕ} {light : List Float} {d e : List ℕ} {k r : ℕ}
-    → c ≡ counts_in b → bounces ≡ (run_of_file b).bounces → change ≡ (run_of_file b).last → n ≡ c.probes
-    → seen ≡ filled (λ i. seen_number (reading_of_file b i)) c.probes (replicate 16384 0)
-    → light ≡ written (λ i. seen_light (reading_of_file b i)) c.probes (replicate 16384 0f)
-    → d ≡ sets text 0 (head_lines c bounces change) → k ≡ length (head_lines c bounces change)
-    → e ≡ sets d k (rows (line_at seen light) n) → r ≡ k + length (rows (line_at seen light) n)
-    → (e ≡ sets text 0 (lines_of b)) × (r ≡ length (lines_of b))
+pub lines_are : (b s : List ℕ) (l : List Float) {c : Counts} {bounces : ℕ} {change : Float} {seen : List ℕ} {light : List Float}
+    → c ≡ counts_in b → bounces ≡ (run_of_file b).bounces → change ≡ (run_of_file b).last
+    → seen ≡ filled (λ i. seen_number (reading_of_file b i)) (counts_in b).probes s
+    → light ≡ written (λ i. seen_light (reading_of_file b i)) (counts_in b).probes l
+    → length seen ≡ (counts_in b).probes
+    → head_lines c bounces change ++ rows (line_at seen light) (length seen) ≡ lines_of b
 unfolding lines_of
-lines_stored b text {c} {n = n} {seen = seen} {light = light} p q s m u v f g x y =
-    let R : ℕ → List ℕ = rows (λ i. reading_line i (reading_of_file b i)) in
-    let H : List ℕ = head_lines (counts_in b) (run_of_file b).bounces (run_of_file b).last in
-    let w : rows (line_at seen light) n ≡ R c.probes =
-    rw m (lines_read (reading_of_file b) c.probes (replicate 16384 0) (replicate 16384 0f) u v) in
-    (rw (x, g, f, w, q, s, p) (sym (sets_front_append text H (R (counts_in b).probes))), rw (y, g, w, q, s, p) (sym (length-append H (R (counts_in b).probes))))
+lines_are b s l p q r u v n = rw (p, q, r, n, lines_read (reading_of_file b) (counts_in b).probes s l u v)

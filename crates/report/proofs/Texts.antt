@@ -1,34 +1,49 @@
 -- Lines stored one after the other, and those of the probes. Assumes nothing.
-use mathlib.Core.List.{List, ◌++◌}
-use mathlib.Core.Path.{◌≡◌, refl, sym}
-use Prim.Native.Nat.{ℕ, zero, suc, ◌+◌, ◌*◌, ◌≤◌, ◌<◌}
+use mathlib.Core.List.{List, [], ◌++◌, append-nil, append_assoc}
+use mathlib.Core.Path.{◌≡◌, refl, sym, ap, ◌∙◌}
+use Prim.Native.Nat.{ℕ, zero, suc, ◌+◌, ◌-◌, ◌*◌, ◌≤◌, ◌<◌}
 use native.Mathlib.Nat.{mul-suc}
 use native.Mathlib.Omega.{arith}
 use lib.Dec.{eqb}
 use lib.Ieee.{Float}
-use lib.ListN.{length, replicate, length-append, length-replicate}
-use lib.Seq.{sets}
+use lib.ListN.{length, take, drop, length-append, drop_of_length-le}
+use lib.Seq.{sets, sets-eq, length-sets, drop-drop, take-length}
+use borrow.Rule.Slice.PartMut.{put_mid}
+use Rattle.std.proofs.lemmas.List.{length-drop}
 use Rattle.vector.specs.Flat.{rows, filled, written}
-use Rattle.vector.proofs.Replaced.{rows_same, length_filled, at_filled, at_written}
-use Rattle.vector.proofs.Stored.{sets_append, rows_more}
+use Rattle.vector.proofs.Replaced.{rows_same, at_filled, at_written}
+use Rattle.vector.proofs.Stored.{sets_front, sets_front_append, sets_part}
 use Rattle.surfel.specs.Answers.{seen_number, seen_light}
 use Rattle.surfel.specs.declared.Reading.{Reading}
 use Rattle.surfel.specs.declared.Reading.TheVariants.{Seen, Unseen}
 use Rattle.lines.specs.Lines.{probe_line}
-use Rattle.lines.proofs.Widths.{probe_short}
+use Rattle.lines.proofs.Widths.{probe_width}
 use Rattle.report.specs.Needs.{seen_in}
 use mathlib.Core.Bool.{cond}
 use Rattle.std.specs.Prelude.{Some, None}
 use Rattle.report.specs.Report.{reading_line}
 
--- ---- a line after others
+-- ---- lines after others
 
--- d has a text x stored from place `at` on, and e has the line t stored after it
-pub line_stored : (t text x : List ℕ) (at : ℕ) {d e : List ℕ} {k r : ℕ}
-    → d ≡ sets text at x → k ≡ at + length x → e ≡ sets d k t → r ≡ k + length t
-    → (e ≡ sets text at (x ++ t)) × (r ≡ at + length (x ++ t))
-line_stored t text x at p f s u =
-    (rw (s, f, p) (sym (sets_append text at x t)), rw (u, f, length-append) (omega arith))
+-- what is stored at the front of all that lies from a place on, is stored from that place on
+tail_stored : (t x : List ℕ) (at k : ℕ) {s : List ℕ} → k ≡ length t - at → at + length x ≤ length t → s ≡ sets (take k (drop at t)) 0 x → put_mid at k t s ≡ sets t at x
+tail_stored t x at k {s} e h p =
+    let l : length (drop at t) ≡ k = length-drop at t ∙ sym e in
+    let whole : take k (drop at t) ≡ drop at t = rw (← l) (take-length (drop at t)) in
+    let stored : s ≡ x ++ drop (length x) (drop at t) = p ∙ rw whole (sets_front (drop at t) x (omega (arith, l))) in
+    let n : length s ≡ k = ap length p ∙ simp length-sets (ap length whole ∙ l) in
+    let nil : drop (at + length s) t ≡ [] = drop_of_length-le t {i = at + length s} (omega arith) in
+    sets_part t s at k n (omega arith)
+    ∙ sets-eq s t at (omega arith)
+    ∙ rw (nil, append-nil, stored, drop-drop, ← append_assoc) (sym (sets-eq x t at h))
+
+-- d has x stored at the front, and what lies behind it then has t stored at its front
+pub more_stored : (text x t : List ℕ) {d s : List ℕ} {k r : ℕ}
+    → d ≡ sets text 0 x → k ≡ length x → length x + length t ≤ length text → s ≡ sets (take (length d - k) (drop k d)) 0 t → r ≡ length t
+    → (put_mid k (length d - k) d s ≡ sets text 0 (x ++ t)) × (k + r ≡ length (x ++ t))
+more_stored text x t {d} {s} {k} p f h q u =
+    let n : length d ≡ length text = ap length p ∙ simp length-sets in
+    (tail_stored d t k (length d - k) refl (omega arith) q ∙ rw (p, f) (sym (sets_front_append text x t)), rw length-append (omega arith))
 
 -- ---- the lines of the probes
 
@@ -43,22 +58,9 @@ rows_within f w zero h = omega arith
 rows_within f w (suc n) h =
     rw (length-append, mul-suc) (omega (arith, rows_within f w n (λ i k. h i (omega arith)), h n (omega arith)))
 
--- n lines take at most 64 bytes each
-pub lines_within : (seen : List ℕ) (light : List Float) (n : ℕ) → length (rows (line_at seen light) n) ≤ 64 * n
-lines_within seen light n = rows_within (line_at seen light) 64 n (λ i h. probe_short i (seen_in seen light i))
-
--- one line more
-pub probe_stored : (seen : List ℕ) (light : List Float) (i : ℕ) (text : List ℕ) (at : ℕ) {l d e : List ℕ} {k r : ℕ}
-    → l ≡ line_at seen light i → d ≡ sets text at (rows (line_at seen light) i) → k ≡ at + length (rows (line_at seen light) i)
-    → e ≡ sets d k l → r ≡ k + length l
-    → (e ≡ sets text at (rows (line_at seen light) (i + 1))) × (r ≡ at + length (rows (line_at seen light) (i + 1)))
-probe_stored seen light i text at q p f s u =
-    rw (rows_more (line_at seen light) i)
-    (line_stored (line_at seen light i) text (rows (line_at seen light) i) at p f (rw q at s) (rw q at u))
-
--- numbers written into m zeros leave m places
-pub places_kept : (g : ℕ → ℕ) (n m : ℕ) {l : List ℕ} → n ≤ m → l ≡ filled g n (replicate m 0) → length l ≡ m
-places_kept g n m h e = let r = length-replicate {A = ℕ} m 0 in rw (e, length_filled g n (replicate m 0) (omega arith)) r
+-- n lines take at most 45 bytes each
+pub lines_within : (seen : List ℕ) (light : List Float) (n : ℕ) → n ≤ 9999 → length (rows (line_at seen light) n) ≤ 45 * n
+lines_within seen light n h = rows_within (line_at seen light) 45 n (λ i k. probe_width i (seen_in seen light i) (omega arith))
 
 -- what is written of a reading gives its line
 pub reading_line_lem : (i : ℕ) (r : Reading) → probe_line i (cond (eqb (seen_number r) 1) (Some (seen_light r)) None) ≡ reading_line i r

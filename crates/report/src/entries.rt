@@ -1,11 +1,10 @@
 // The report on a room file.
-ghost use Rattle.std.specs.Prelude.{◌≡◌, ◌≤◌, ◌++◌, length, drop, Ok};
+ghost use Rattle.std.specs.Prelude.{◌≡◌, ◌≤◌, ◌++◌, length, drop};
 ghost use Rattle.std.proofs.lemmas.List.Edits.{sets};
 ghost use Rattle.report.specs.Light.{grid_fits};
-ghost use Rattle.report.specs.Report.{lines_of, report, report_check, max_report, report_answer};
+ghost use Rattle.report.specs.Report.{lines_of, report, max_report, report_answer};
 
-use crate::probing::read_file;
-use crate::solving::solve_file;
+use crate::accepted::Accepted;
 use crate::writing::{put_head, put_line, put_probes};
 use accept::limits::MAX_PROGRAM_FILE;
 use accept::{Refusal, require, wide};
@@ -37,27 +36,26 @@ fn write_report(bytes: &[u8], text: &mut [u8]) -> usize
     let file = RoomFile::new(bytes);
     let fits = grid_fits(file.probe_box());
     match file.check(MAX_PROGRAM_FILE, fits) {
-        Ok(()) => write_lines(&file, text),
-        Err(refusal) => put_line(text, 0, lines::refused(u32::from(refusal))),
+        Ok(()) => write_lines(&Accepted { file: &file }, text),
+        Err(refusal) => put_line(text, lines::refused(u32::from(refusal))),
     }
 }
 
 // Writes the lines of a file that is accepted; how many bytes they are.
-// Kept: that the file is accepted is asked here and in what is called, beside the room in what each writes
-// to; a type for the one would not spare the other.
-fn write_lines(file: &RoomFile, text: &mut [u8]) -> usize
-    requires { report_check file.now ≡ Ok tt }
-    ensures text_after { text.new ≡ sets text.old 0 (lines_of file.now) }
-    ensures value { result ≡ length (lines_of file.now) }
+fn write_lines(file: &Accepted, text: &mut [u8]) -> usize
+    requires { max_report ≤ length text.old }
+    ensures text_after { text.new ≡ sets text.old 0 (lines_of file.now.file.now) }
+    ensures value { result ≡ length (lines_of file.now.file.now) }
 {
     let c = file.counts();
-    let made = solve_file(file);
-    let irr = made.irr;
-    let readings = read_file(file, irr);
-    let seen = readings.seen;
-    let light = readings.light;
-    let at = put_head(text, c, made.bounces, made.change);
-    put_probes(text, at, wide(c.probes), &seen, &light)
+    let count = wide(c.probes);
+    let irr = &mut [0.0; 16384][..3 * wide(c.surfels)];
+    let seen = &mut [0u32; 16384][..count];
+    let light = &mut [0.0; 16384][..3 * count];
+    let made = file.solve(irr);
+    file.read(irr, seen, light);
+    let end = put_head(text, c, made);
+    end + put_probes(&mut text[end..], seen, light)
 }
 
 // Whether there are places for the starts of a grid over this box.

@@ -1,136 +1,98 @@
 // The solve of a file's room, in columns of the length of their need.
-ghost use Rattle.std.specs.Prelude.{◌≡◌, ◌*◌, take, Ok};
-ghost use Rattle.transfer.specs.Room.{light_out};
-ghost use Rattle.solve.specs.Answers.{run_of};
-ghost use Rattle.file.specs.Blocks.{counts_in};
+ghost use Rattle.std.specs.Prelude.{◌≡◌, ◌*◌, length};
+ghost use Rattle.transfer.specs.Room.{clusters_of, rows_of};
+ghost use Rattle.file.specs.Blocks.{counts_in, cluster_areas, firsts, member_counts, members, row_starts, link_clusters, link_weights};
+ghost use Rattle.file.specs.Columns.{numbers_read, floats_read};
 ghost use Rattle.report.specs.Light.{run_of_file};
-ghost use Rattle.report.specs.Report.{report_check};
-ghost use Rattle.report.specs.Needs.{made_by, SurfelsCut, ClustersCut, RowsCut};
 
-use crate::Solved;
-use accept::{Refusal, wide};
-use file::RoomFile;
+use crate::accepted::Accepted;
+use accept::wide;
 use reset::reset;
 use solve::{SolveStats, solve};
 use transfer::{Clusters, Room, Rows};
 
-// The solve of the room in a file that is accepted.
-// Kept: local arrays cut to their need, since a report can't fail and so has no heap.
-#[tactic(auto, using(crate::proofs::Fitting::counts_short))]
-pub fn solve_file(file: &RoomFile) -> Solved
-    requires { report_check file.now ≡ Ok tt }
-    ensures bounces_value { result.bounces ≡ (run_of_file file.now).bounces }
-    ensures change_value { result.change ≡ (run_of_file file.now).last }
-    ensures irr_value { take (3 * (counts_in file.now).surfels) result.irr ≡ (run_of_file file.now).light.irr }
-{
-    let c = file.counts();
-    let n = wide(c.surfels);
-    let nc = wide(c.clusters);
-    let links = wide(c.links);
-    let members = wide(c.members);
-    let mut light = [0.0; 16384];
-    let mut direct = [0.0; 16384];
-    let mut irr = [0.0; 16384];
-    let mut rad = [0.0; 16384];
-    let mut albedo = [0.0; 16384];
-    let mut area = [0.0; 16384];
-    let mut cluster_area = [0.0; 16384];
-    let mut first = [0u32; 16384];
-    let mut count = [0u32; 16384];
-    let mut member = [0u32; 16384];
-    let mut scratch = [0.0; 16384];
-    let mut starts = [0u32; 16384];
-    let mut cluster = [0u32; 16384];
-    let mut weight = [0.0; 16384];
-    let made = solve_in(
-        file,
-        &mut light[..3 * n],
-        &mut direct[..3 * n],
-        &mut irr[..3 * n],
-        &mut rad[..3 * n],
-        &mut albedo[..3 * n],
-        &mut area[..n],
-        &mut cluster_area[..nc],
-        &mut first[..nc],
-        &mut count[..nc],
-        &mut member[..members],
-        &mut scratch[..3 * nc],
-        &mut starts[..n + 1],
-        &mut cluster[..links],
-        &mut weight[..links],
-    );
-    Solved {
-        bounces: made.bounces,
-        change: made.change,
-        irr,
+impl Accepted<'_> {
+    // The solve of the file's room: how many bounces, and the last change; irr becomes what it leaves,
+    // three floats a surfel. Neither the reset nor the solve is refused, since the file is accepted.
+    // Kept: local arrays cut to their need, since a report can't fail and so has no heap.
+    pub fn solve(&self, irr: &mut [f32]) -> SolveStats
+        requires { length irr.old ≡ 3 * (counts_in self.now.file.now).surfels }
+        ensures bounces_value { result.bounces ≡ (run_of_file self.now.file.now).bounces }
+        ensures change_value { result.change ≡ (run_of_file self.now.file.now).last }
+        ensures irr_value { irr.new ≡ (run_of_file self.now.file.now).light.irr }
+    {
+        let c = self.counts();
+        let n = wide(c.surfels);
+        let nc = wide(c.clusters);
+        let members = wide(c.members);
+        let links = wide(c.links);
+        let albedo = &mut [0.0; 16384][..3 * n];
+        let area = &mut [0.0; 16384][..n];
+        let light = &mut [0.0; 16384][..3 * n];
+        let direct = &mut [0.0; 16384][..3 * n];
+        let rad = &mut [0.0; 16384][..3 * n];
+        let scratch = &mut [0.0; 16384][..3 * nc];
+        let cluster_area = &mut [0.0; 16384][..nc];
+        let first = &mut [0u32; 16384][..nc];
+        let count = &mut [0u32; 16384][..nc];
+        let member = &mut [0u32; 16384][..members];
+        let starts = &mut [0u32; 16384][..n + 1];
+        let cluster = &mut [0u32; 16384][..links];
+        let weight = &mut [0.0; 16384][..links];
+        self.file.read_surfaces(albedo, area, light);
+        reset(light, direct, irr, rad).unwrap();
+        let room = Room {
+            n,
+            albedo,
+            area,
+            direct,
+            clusters: self.clusters(cluster_area, first, count, member),
+            rows: self.rows(starts, cluster, weight),
+        };
+        solve(&room, wide(c.limit), irr, rad, scratch).unwrap()
     }
-}
 
-// The solve in these columns, all of the length of their need. Neither the reset nor the solve is
-// refused, since the file is accepted.
-//
-// Kept: each column is a slice of its own, since it is written first and lent as part of a room then.
-fn solve_in<'a>(
-    file: &RoomFile,
-    light: &mut [f32],
-    direct: &'a mut [f32],
-    irr: &mut [f32],
-    rad: &mut [f32],
-    albedo: &'a mut [f32],
-    area: &'a mut [f32],
-    cluster_area: &'a mut [f32],
-    first: &'a mut [u32],
-    count: &'a mut [u32],
-    member: &'a mut [u32],
-    scratch: &mut [f32],
-    starts: &'a mut [u32],
-    cluster: &'a mut [u32],
-    weight: &'a mut [f32],
-) -> SolveStats
-    requires accepted { report_check file.now ≡ Ok tt }
-    requires surfels_cut { SurfelsCut (counts_in file.now) light.old direct.old irr.old rad.old albedo.old area.old }
-    requires clusters_cut { ClustersCut (counts_in file.now) cluster_area.old first.old count.old member.old scratch.old }
-    requires rows_cut { RowsCut (counts_in file.now) starts.old cluster.old weight.old }
-    ensures { run_of result (light_out irr rad) ≡ run_of_file file.now }
-{
-    let c = file.counts();
-    file.read_surfaces(albedo, area, light);
-    file.read_clusters(cluster_area, first, count, member);
-    file.read_rows(starts, cluster, weight);
-    let _ = reset(light, direct, irr, rad);
-    let room = Room {
-        n: wide(c.surfels),
-        albedo,
-        area,
-        direct,
-        clusters: Clusters {
+    // The clusters of the file, read into these columns.
+    fn clusters<'t>(
+        &self,
+        area: &'t mut [f32],
+        first: &'t mut [u32],
+        count: &'t mut [u32],
+        member: &'t mut [u32],
+    ) -> Clusters<'t>
+        ensures { let b = self.now.file.now in let c = counts_in b in result
+            ≡ clusters_of c.clusters c.members (floats_read b (cluster_areas c) area.old) (numbers_read b (firsts c) first.old)
+            (numbers_read b (member_counts c) count.old) (numbers_read b (members c) member.old) }
+    {
+        let c = self.file.counts();
+        self.file.read_clusters(area, first, count, member);
+        Clusters {
             nc: wide(c.clusters),
             members: wide(c.members),
-            area: cluster_area,
+            area,
             first,
             count,
             member,
-        },
-        rows: Rows {
-            links: wide(c.links),
+        }
+    }
+
+    // The rows of the file, read into these columns.
+    fn rows<'t>(
+        &self,
+        starts: &'t mut [u32],
+        cluster: &'t mut [u32],
+        weight: &'t mut [f32],
+    ) -> Rows<'t>
+        ensures { let b = self.now.file.now in let c = counts_in b in result
+            ≡ rows_of c.links (numbers_read b (row_starts c) starts.old) (numbers_read b (link_clusters c) cluster.old)
+            (floats_read b (link_weights c) weight.old) }
+    {
+        self.file.read_rows(starts, cluster, weight);
+        Rows {
+            links: wide(self.file.counts().links),
             starts,
             cluster,
             weight,
-        },
-    };
-    let answer = solve(&room, wide(c.limit), irr, rad, scratch);
-    made_by(answer)
-}
-
-// What a solve made; nothing where it was refused.
-fn made_by(answer: Result<SolveStats, Refusal>) -> SolveStats
-    ensures { result ≡ made_by answer }
-{
-    match answer {
-        Ok(made) => made,
-        Err(_) => SolveStats {
-            bounces: 0,
-            change: 0.0,
-        },
+        }
     }
 }

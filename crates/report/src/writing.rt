@@ -1,5 +1,5 @@
-// Lines put into a buffer, one after the other.
-ghost use Rattle.std.specs.Prelude.{◌≡◌, ◌+◌, ◌<◌, ◌≤◌, length};
+// Lines put at the front of a text, one after the other; how many bytes they are.
+ghost use Rattle.std.specs.Prelude.{◌≡◌, ◌*◌, ◌<◌, ◌≤◌, length};
 ghost use Rattle.std.proofs.lemmas.List.Edits.{sets};
 ghost use Rattle.accept.specs.Limits.{max_bounces};
 ghost use Rattle.vector.specs.Flat.{rows};
@@ -9,47 +9,47 @@ ghost use Rattle.report.specs.Needs.{seen_in as Needs·seen_in};
 
 use file::Counts;
 use lines::Line;
-use solve::settled;
+use solve::{SolveStats, settled};
 use vector::Vec3;
 
-// Puts a line from place `at` on; the place after it.
-pub fn put_line(text: &mut [u8], at: usize, line: Line) -> usize
-    requires at_bound { at ≤ 1099511627776 }
-    ensures text_after { text.new ≡ sets text.old at line }
-    ensures value { result ≡ at + length line }
+// Puts a line.
+pub fn put_line(text: &mut [u8], line: Line) -> usize
+    ensures text_after { text.new ≡ sets text.old 0 line }
+    ensures value { result ≡ length line }
 {
     let bytes = line.as_slice();
-    text::put(text, at, bytes);
-    at + bytes.len()
+    text::put(text, 0, bytes);
+    bytes.len()
 }
 
-// Puts the lines of the counts and of a run at the front; the place after them.
-pub fn put_head(text: &mut [u8], c: Counts, bounces: usize, change: f32) -> usize
-    requires { bounces ≤ max_bounces }
-    ensures text_after { text.new ≡ sets text.old 0 (head_lines c bounces change) }
-    ensures value { result ≡ length (head_lines c bounces change) }
+// Puts the lines of the counts and of a run, at most 101 bytes.
+pub fn put_head(text: &mut [u8], c: Counts, made: SolveStats) -> usize
+    requires bounces_bound { made.bounces ≤ max_bounces }
+    requires room { 101 ≤ length text.old }
+    ensures text_after { text.new ≡ sets text.old 0 (head_lines c made.bounces made.change) }
+    ensures value { result ≡ length (head_lines c made.bounces made.change) }
 {
     let counts = lines::counts(c.surfels, c.clusters, c.links);
-    let at = put_line(text, 0, counts);
+    let SolveStats { bounces, change } = made;
     let run = lines::bounces(bounces as u32, change, settled(bounces, change));
-    put_line(text, at, run)
+    let end = put_line(text, counts);
+    end + put_line(&mut text[end..], run)
 }
 
-// Puts the lines of `count` probes, with these readings, from place `at` on; the place after them.
-pub fn put_probes(text: &mut [u8], at: usize, count: usize, seen: &[u32], light: &[f32]) -> usize
-    requires at_bound { at ≤ 1048576 }
-    requires count_bound { count ≤ 16384 }
-    requires count_in_bounds { count ≤ length seen.now }
+// Puts the lines of the probes that have these readings, at most 45 bytes each.
+pub fn put_probes(text: &mut [u8], seen: &[u32], light: &[f32]) -> usize
+    requires few { length seen.now ≤ 9999 }
+    requires room { 45 * length seen.now ≤ length text.old }
     ensures text_after { text.new
-        ≡ sets text.old at (rows (λ i. probe_line i (Needs·seen_in seen.now light.now i)) count) }
-    ensures value { result ≡ at + length (rows (λ i. probe_line i (Needs·seen_in seen.now light.now i)) count) }
+        ≡ sets text.old 0 (rows (λ i. probe_line i (Needs·seen_in seen.now light.now i)) (length seen.now)) }
+    ensures value { result ≡ length (rows (λ i. probe_line i (Needs·seen_in seen.now light.now i)) (length seen.now)) }
 {
-    let mut to = at;
-    for i in 0..count {
+    let mut end = 0;
+    for i in 0..seen.len() {
         let line = lines::probe(i as u32, seen_in(seen, light, i));
-        to = put_line(text, to, line);
+        end += put_line(&mut text[end..], line);
     }
-    to
+    end
 }
 
 // The light that is seen at probe i, by what was written of the readings.

@@ -1,37 +1,43 @@
--- `report::writing::put_probes` meets its contract. After i turns the first i lines are stored, of at most 64 bytes each. Assumes nothing.
-use mathlib.Core.Path.{◌≡◌, refl, ap, ◌∙◌}
+-- `report::writing::put_probes` meets its contract. After i turns the first i lines are stored, of at most 45 bytes each. Assumes nothing.
+use mathlib.Core.Path.{◌≡◌, refl}
+use Prim.Native.Nat.{◌≤◌}
 use native.Mathlib.Omega.{arith}
-use lib.ListN.{length}
-use lib.Seq.{length-sets}
 use borrow.Author.Rules.{rules}
+use lib.ListN.{length}
 use Rattle.vector.specs.Flat.{rows}
-use Rattle.report.proofs.Texts.{line_at, lines_within, probe_stored}
+use Rattle.vector.proofs.Stored.{rows_more}
+use Rattle.lines.proofs.Widths.{probe_width}
+use Rattle.report.specs.Needs.{seen_in}
+use Rattle.report.proofs.Texts.{line_at, lines_within, more_stored}
 use Rattle.report.proofs.writing.put_probes.Goals as goal
 
 pub loop-i-init : goal.loop-i-init
 unfolding rows
-loop-i-init c =
-    (omega arith, refl, omega arith)
+loop-i-init c = (refl, refl)
 
-pub put_line-to-requires : goal.put_line-to-requires
-put_line-to-requires c =
-    let seen = c.args.seen.now in
-    let light = c.args.light.now in
-    let i = c.loop-i.i in
-    omega (arith, c.loop-i.invariant.2, lines_within seen light i)
+-- the lines so far end within the text
+ends : (c : goal.After-probe-line) → c.loop-i.end ≤ length c.loop-i.text
+ends c =
+    let seen = c.args.seen.now in let light = c.args.light.now in let i = c.loop-i.i in
+    let n : length c.loop-i.text ≡ length c.args.text.now = c.loop-i.auto.text in
+    omega (arith, c.requires.room, c.loop-i.invariant.1, lines_within seen light i (omega arith))
+
+pub slice_bounds-put_line-count : goal.slice_bounds-put_line-count
+slice_bounds-put_line-count c = ends c
+
+pub slice_bounds-put_line-start : goal.slice_bounds-put_line-start
+slice_bounds-put_line-start c = let h = ends c in search rules
+
+pub overflow_add-end : goal.overflow_add-end
+overflow_add-end c =
+    let seen = c.args.seen.now in let light = c.args.light.now in let i = c.loop-i.i in
+    let put = rw (c.probe-line.ensures, c.seen_in.ensures) at c.put_line-end.ensures in
+    omega (arith, c.loop-i.invariant.1, lines_within seen light i (omega arith), put.value, probe_width i (seen_in seen light i) (omega arith))
 
 pub loop-i-preserved : goal.loop-i-preserved
 loop-i-preserved c =
     let seen = c.args.seen.now in let light = c.args.light.now in let i = c.loop-i.i in
-    let e : c.probe-line.result ≡ line_at seen light i = rw c.seen_in.ensures at c.probe-line.ensures in
-    let m = probe_stored seen light i c.args.text.now c.args.at e c.loop-i.invariant.1 c.loop-i.invariant.2 c.put_line-to.ensures.text_after c.put_line-to.ensures.value in
-    (search rules, m.0, m.1)
-
-pub shape_of-text : goal.shape_of-text
-shape_of-text c =
-    ap length c.loop-i.invariant.1 ∙ simp length-sets
-
-pub returns : goal.returns
-returns c =
-    let e : c.loop-i.i ≡ c.args.count = omega arith in
-    record { text_after = rw e at c.loop-i.invariant.1; value = rw e at c.loop-i.invariant.2 }
+    let put = rw (c.probe-line.ensures, c.seen_in.ensures) at c.put_line-end.ensures in
+    rw (rows_more (line_at seen light) i)
+    (more_stored c.args.text.now (rows (line_at seen light) i) (line_at seen light i) c.loop-i.invariant.0 c.loop-i.invariant.1
+    (omega (arith, lines_within seen light i (omega arith), probe_width i (seen_in seen light i) (omega arith))) put.text_after put.value)
