@@ -1,7 +1,7 @@
 // What the entries answer, told as a C function tells it: the number of a refusal is returned, and else 0
 // with the answer's own numbers written through references.
 //
-// No function here asks anything of its caller.
+// No public function here asks anything of its caller.
 // Kept: an answer's numbers are written through a reference each, since C lends them so.
 #![tactic(auto)]
 
@@ -11,6 +11,7 @@ mod rows;
 mod scenes;
 mod solves;
 mod surfels;
+mod telling;
 
 pub use counts::tell_count;
 pub use reading::tell_head;

@@ -2,6 +2,7 @@
 ghost use Rattle.std.specs.Prelude.{◌≡◌};
 ghost use Rattle.outs.specs.Outs.{left, stats_outs};
 
+use crate::telling::tell;
 use accept::Refusal;
 use solve::SolveStats;
 
@@ -13,12 +14,9 @@ pub fn tell_solved(
 ) -> u32
     ensures { (result, (stats_outs bounces change).exit) ≡ left answer (stats_outs bounces change).entry }
 {
-    match answer {
-        Ok(made) => {
-            *bounces = made.bounces;
-            *change = made.change;
-            0
-        }
-        Err(refusal) => u32::from(refusal),
-    }
+    let mut write = |made: SolveStats| {
+        *bounces = made.bounces;
+        *change = made.change;
+    };
+    tell(answer, &mut write)
 }

@@ -1,8 +1,9 @@
 // What a grid or a reading answered, told through references.
 ghost use Rattle.std.specs.Prelude.{◌≡◌};
 ghost use Rattle.outs.specs.Outs.{dims_outs, reading_outs, left};
-ghost use Rattle.outs.specs.Surfels.{gather_left, reading_left};
+ghost use Rattle.outs.specs.Surfels.{gather_left};
 
+use crate::telling::tell;
 use accept::Refusal;
 use grid::Dims;
 use surfel::Reading;
@@ -16,18 +17,16 @@ pub fn tell_dims(
 ) -> u32
     ensures { (result, (dims_outs dx dy dz).exit) ≡ left answer (dims_outs dx dy dz).entry }
 {
-    match answer {
-        Ok(dim) => {
-            *dx = dim.x;
-            *dy = dim.y;
-            *dz = dim.z;
-            0
-        }
-        Err(refusal) => u32::from(refusal),
-    }
+    let mut write = |dim: Dims| {
+        *dx = dim.x;
+        *dy = dim.y;
+        *dz = dim.z;
+    };
+    tell(answer, &mut write)
 }
 
 // The number that a reading was refused with, or 0 with the reading written through references.
+// Kept: 1 or 0 beside the light, since C has no enum that holds a value.
 pub fn tell_reading(
     answer: Result<Reading, Refusal>,
     seen: &mut u32,
@@ -37,21 +36,7 @@ pub fn tell_reading(
 ) -> u32
     ensures { (result, (reading_outs seen x y z).exit) ≡ gather_left answer (reading_outs seen x y z).entry }
 {
-    match answer {
-        Ok(reading) => {
-            store_reading(reading, seen, x, y, z);
-            0
-        }
-        Err(refusal) => u32::from(refusal),
-    }
-}
-
-// A reading written through references.
-// Kept: 1 or 0 beside the light, since C has no enum that holds a value.
-fn store_reading(reading: Reading, seen: &mut u32, x: &mut f32, y: &mut f32, z: &mut f32)
-    ensures { (reading_outs seen x y z).exit ≡ reading_left reading }
-{
-    match reading {
+    let mut write = |reading: Reading| match reading {
         Reading::Seen(light) => {
             *seen = 1;
             *x = light.x;
@@ -64,5 +49,6 @@ fn store_reading(reading: Reading, seen: &mut u32, x: &mut f32, y: &mut f32, z: 
             *y = 0.0;
             *z = 0.0;
         }
-    }
+    };
+    tell(answer, &mut write)
 }
