@@ -7,8 +7,8 @@ ghost use Rattle.clusters.specs.Answers.{scratch_open};
 ghost use Rattle.outs.specs.Outs.{clustered_outs};
 ghost use Rattle.interflect.specs.Rows.{interflect_build_clusters};
 
+use crate::vectors::vec;
 use clusters::{Columns, Cut, Surfels};
-use vector::Vec3;
 
 // Makes clusters of n surfels, by the voxel that each stands in, of res voxels on each axis of the
 // box from lo to hi, and the axis that its normal points along: made becomes how many clusters there
@@ -56,16 +56,8 @@ pub extern "C" fn interflect_build_clusters(
         area,
     };
     let cut = Cut {
-        lo: Vec3 {
-            x: lox,
-            y: loy,
-            z: loz,
-        },
-        hi: Vec3 {
-            x: hix,
-            y: hiy,
-            z: hiz,
-        },
+        lo: vec(lox, loy, loz),
+        hi: vec(hix, hiy, hiz),
         res,
     };
     let columns = Columns {

@@ -15,6 +15,7 @@ mod rows;
 mod scenes;
 mod solves;
 mod surfels;
+mod vectors;
 
 pub use clustering::interflect_build_clusters;
 pub use floats::{interflect_cell, interflect_cell_count, interflect_sqrt};

@@ -7,9 +7,9 @@ ghost use Rattle.placement.specs.Lent.{request_in, columns_in, columns_out};
 ghost use Rattle.placement.specs.Answers.{head_open, next_open};
 ghost use Rattle.interflect.specs.Placing.{interflect_generate};
 
+use crate::vectors::vec;
 use placement::Request;
 use tables::Scene;
-use vector::Vec3;
 
 // Places at most `target` surfels on the surface of a scene, within the box from lo to hi: count
 // becomes how many they are. They have no light yet. head and next are scratch.
@@ -66,16 +66,8 @@ pub extern "C" fn interflect_generate(
         scene,
         mats,
         materials,
-        lo: Vec3 {
-            x: lox,
-            y: loy,
-            z: loz,
-        },
-        hi: Vec3 {
-            x: hix,
-            y: hiy,
-            z: hiz,
-        },
+        lo: vec(lox, loy, loz),
+        hi: vec(hix, hiy, hiz),
         target,
     };
     let answer = placement::generate(&request, p, n, albedo, area, direct, irr, rad, head, next);

@@ -9,9 +9,9 @@ ghost use Rattle.formfactor.specs.Answers.{scratch_open};
 ghost use Rattle.outs.specs.Outs.{build_outs};
 ghost use Rattle.interflect.specs.Rows.{interflect_build};
 
+use crate::vectors::vec;
 use formfactor::{Emitters, Surfels};
 use tables::Scene;
-use vector::Vec3;
 
 // Builds the rows of n surfels over nc clusters: links becomes how many links they have,
 // mean_row_sum the mean of the row sums over the rows with links, evals how many distances were
@@ -83,16 +83,8 @@ pub extern "C" fn interflect_build(
     };
     let answer = formfactor::build(
         &scene,
-        Vec3 {
-            x: lox,
-            y: loy,
-            z: loz,
-        },
-        Vec3 {
-            x: hix,
-            y: hiy,
-            z: hiz,
-        },
+        vec(lox, loy, loz),
+        vec(hix, hiy, hiz),
         &surfels,
         &emitters,
         starts,

@@ -5,9 +5,9 @@ ghost use Rattle.tables.specs.Tables.{scene_in};
 ghost use Rattle.outs.specs.Outs.{dist_outs, vec_outs, hit_outs, trace_outs, shadow_outs, closure_outs};
 ghost use Rattle.interflect.specs.Scenes.{interflect_dist_mat, interflect_normal, interflect_trace, interflect_soft_shadow, interflect_hemisphere_closure};
 
+use crate::vectors::vec;
 use scene::Ray;
 use tables::Scene;
-use vector::Vec3;
 
 // The distance from x y z to the nearest of the scene, and its material.
 #[unsafe(no_mangle)]
@@ -37,7 +37,7 @@ pub extern "C" fn interflect_dist_mat(
         plane_parts,
         object_parts,
     };
-    let answer = scene::dist_mat(&scene, Vec3 { x, y, z });
+    let answer = scene::dist_mat(&scene, vec(x, y, z));
     outs::tell_nearest(answer, d, mat)
 }
 
@@ -70,7 +70,7 @@ pub extern "C" fn interflect_normal(
         plane_parts,
         object_parts,
     };
-    let answer = scene::normal(&scene, Vec3 { x, y, z });
+    let answer = scene::normal(&scene, vec(x, y, z));
     outs::tell_normal(answer, nx, ny, nz)
 }
 
@@ -118,16 +118,8 @@ pub extern "C" fn interflect_trace(
         object_parts,
     };
     let ray = Ray {
-        ro: Vec3 {
-            x: rox,
-            y: roy,
-            z: roz,
-        },
-        rd: Vec3 {
-            x: rdx,
-            y: rdy,
-            z: rdz,
-        },
+        ro: vec(rox, roy, roz),
+        rd: vec(rdx, rdy, rdz),
         tmin,
         tmax,
     };
@@ -171,16 +163,8 @@ pub extern "C" fn interflect_soft_shadow(
         object_parts,
     };
     let ray = Ray {
-        ro: Vec3 {
-            x: rox,
-            y: roy,
-            z: roz,
-        },
-        rd: Vec3 {
-            x: rdx,
-            y: rdy,
-            z: rdz,
-        },
+        ro: vec(rox, roy, roz),
+        rd: vec(rdx, rdy, rdz),
         tmin,
         tmax,
     };
@@ -221,19 +205,6 @@ pub extern "C" fn interflect_hemisphere_closure(
         plane_parts,
         object_parts,
     };
-    let answer = scene::hemisphere_closure(
-        &scene,
-        Vec3 {
-            x: px,
-            y: py,
-            z: pz,
-        },
-        Vec3 {
-            x: nx,
-            y: ny,
-            z: nz,
-        },
-        tmax,
-    );
+    let answer = scene::hemisphere_closure(&scene, vec(px, py, pz), vec(nx, ny, nz), tmax);
     outs::tell_closure(answer, sky, evals)
 }

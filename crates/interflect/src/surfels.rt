@@ -7,9 +7,9 @@ ghost use Rattle.surfel.specs.Gathering.{surfels_in};
 ghost use Rattle.outs.specs.Outs.{dims_outs, reading_outs};
 ghost use Rattle.interflect.specs.Surfels.{interflect_grid_build, interflect_near, interflect_gather, interflect_gather_all};
 
+use crate::vectors::vec;
 use grid::{Grid, Space};
 use surfel::{Probes, Surfels};
-use vector::Vec3;
 
 // Puts n points into the cells of the box from lo to hi: starts has where each cell begins in
 // items, and dx, dy, dz become how many cells there are on each axis.
@@ -35,16 +35,8 @@ pub extern "C" fn interflect_grid_build(
         starts.old items.old }
 {
     let space = Space {
-        lo: Vec3 {
-            x: lox,
-            y: loy,
-            z: loz,
-        },
-        hi: Vec3 {
-            x: hix,
-            y: hiy,
-            z: hiz,
-        },
+        lo: vec(lox, loy, loz),
+        hi: vec(hix, hiy, hiz),
         cell,
     };
     let answer = grid::grid_build(n, p, space, starts, items);
@@ -77,23 +69,11 @@ pub extern "C" fn interflect_near(
         count.old list.old }
 {
     let space = Space {
-        lo: Vec3 {
-            x: lox,
-            y: loy,
-            z: loz,
-        },
-        hi: Vec3 {
-            x: hix,
-            y: hiy,
-            z: hiz,
-        },
+        lo: vec(lox, loy, loz),
+        hi: vec(hix, hiy, hiz),
         cell,
     };
-    let p = Vec3 {
-        x: px,
-        y: py,
-        z: pz,
-    };
+    let p = vec(px, py, pz);
     let grid = Grid {
         n,
         starts,
@@ -138,28 +118,12 @@ pub extern "C" fn interflect_gather(
         (vec atx aty atz) (vec nx ny nz) radius (reading_outs seen x y z).entry }
 {
     let space = Space {
-        lo: Vec3 {
-            x: lox,
-            y: loy,
-            z: loz,
-        },
-        hi: Vec3 {
-            x: hix,
-            y: hiy,
-            z: hiz,
-        },
+        lo: vec(lox, loy, loz),
+        hi: vec(hix, hiy, hiz),
         cell,
     };
-    let at = Vec3 {
-        x: atx,
-        y: aty,
-        z: atz,
-    };
-    let normal = Vec3 {
-        x: nx,
-        y: ny,
-        z: nz,
-    };
+    let at = vec(atx, aty, atz);
+    let normal = vec(nx, ny, nz);
     let grid = Grid {
         n,
         starts,
@@ -200,16 +164,8 @@ pub extern "C" fn interflect_gather_all(
         (probes_in probes probe_p probe_normals radius) seen.old light.old }
 {
     let space = Space {
-        lo: Vec3 {
-            x: lox,
-            y: loy,
-            z: loz,
-        },
-        hi: Vec3 {
-            x: hix,
-            y: hiy,
-            z: hiz,
-        },
+        lo: vec(lox, loy, loz),
+        hi: vec(hix, hiy, hiz),
         cell,
     };
     let grid = Grid {

@@ -5,4 +5,5 @@ use Rattle.interflect.proofs.clustering.interflect_build_clusters.Goals as goal
 
 pub returns : goal.returns
 returns c =
-    record { members_value = told_with left c.tell_clustered.ensures c.build_clusters-answer.ensures.columns_value; kept_from = c.build_clusters-answer.ensures.kept_from; kept_from_2 = c.build_clusters-answer.ensures.kept_from_2 }
+    let e = rw (c.vec.ensures, c.vec-2.ensures) at c.build_clusters-answer.ensures in
+    record { members_value = told_with left c.tell_clustered.ensures e.columns_value; kept_from = e.kept_from; kept_from_2 = e.kept_from_2 }

@@ -5,4 +5,5 @@ use Rattle.interflect.proofs.placing.interflect_generate.Goals as goal
 
 pub returns : goal.returns
 returns c =
-    record { rad_after = told_with left c.tell_count.ensures c.generate-answer.ensures.rad_value; kept_from = c.generate-answer.ensures.kept_from; kept_from_2 = c.generate-answer.ensures.kept_from_2 }
+    let e = rw (c.vec.ensures, c.vec-2.ensures) at c.generate-answer.ensures in
+    record { rad_after = told_with left c.tell_count.ensures e.rad_value; kept_from = e.kept_from; kept_from_2 = e.kept_from_2 }

@@ -5,8 +5,5 @@ use Rattle.interflect.proofs.rows.interflect_build.Goals as goal
 
 pub returns : goal.returns
 returns c =
-    record {
-      link_weight_after = told_with_three build_left c.tell_built.ensures c.build-answer.ensures.link_weight_after;
-      kept_from = c.build-answer.ensures.kept_from;
-      kept_from_2 = c.build-answer.ensures.kept_from_2;
-    }
+    let e = rw (c.vec.ensures, c.vec-2.ensures) at c.build-answer.ensures in
+    record { link_weight_after = told_with_three build_left c.tell_built.ensures e.link_weight_after; kept_from = e.kept_from; kept_from_2 = e.kept_from_2 }

@@ -5,4 +5,4 @@ use Rattle.interflect.proofs.scenes.interflect_dist_mat.Goals as goal
 
 pub returns : goal.returns
 returns c =
-    told left c.tell_nearest.ensures c.dist_mat-answer.ensures
+    told left c.tell_nearest.ensures (rw c.vec.ensures at c.dist_mat-answer.ensures)

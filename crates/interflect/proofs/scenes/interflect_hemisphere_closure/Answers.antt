@@ -5,4 +5,4 @@ use Rattle.interflect.proofs.scenes.interflect_hemisphere_closure.Goals as goal
 
 pub returns : goal.returns
 returns c =
-    told left c.tell_closure.ensures c.hemisphere_closure-answer.ensures
+    told left c.tell_closure.ensures (rw (c.vec.ensures, c.vec-2.ensures) at c.hemisphere_closure-answer.ensures)

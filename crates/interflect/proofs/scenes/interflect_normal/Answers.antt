@@ -5,4 +5,4 @@ use Rattle.interflect.proofs.scenes.interflect_normal.Goals as goal
 
 pub returns : goal.returns
 returns c =
-    told left c.tell_normal.ensures c.normal-answer.ensures
+    told left c.tell_normal.ensures (rw c.vec.ensures at c.normal-answer.ensures)

@@ -5,4 +5,4 @@ use Rattle.interflect.proofs.scenes.interflect_soft_shadow.Goals as goal
 
 pub returns : goal.returns
 returns c =
-    told left c.tell_shadow.ensures c.soft_shadow-answer.ensures
+    told left c.tell_shadow.ensures (rw (c.vec.ensures, c.vec-2.ensures) at c.soft_shadow-answer.ensures)

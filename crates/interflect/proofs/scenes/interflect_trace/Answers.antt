@@ -5,4 +5,4 @@ use Rattle.interflect.proofs.scenes.interflect_trace.Goals as goal
 
 pub returns : goal.returns
 returns c =
-    told trace_left c.tell_traced.ensures c.trace-answer.ensures
+    told trace_left c.tell_traced.ensures (rw (c.vec.ensures, c.vec-2.ensures) at c.trace-answer.ensures)

@@ -5,4 +5,4 @@ use Rattle.interflect.proofs.surfels.interflect_gather.Goals as goal
 
 pub returns : goal.returns
 returns c =
-    told gather_left c.tell_reading.ensures c.gather-answer.ensures
+    told gather_left c.tell_reading.ensures (rw (c.vec.ensures, c.vec-2.ensures, c.vec-at.ensures, c.vec-normal.ensures) at c.gather-answer.ensures)

@@ -3,4 +3,4 @@ use Rattle.interflect.proofs.surfels.interflect_gather_all.Goals as goal
 
 pub returns : goal.returns
 returns c =
-    rw (c.refusal_number.ensures, ← c.gather_all-answer.ensures)
+    rw (c.refusal_number.ensures, ← (rw (c.vec.ensures, c.vec-2.ensures) at c.gather_all-answer.ensures))

@@ -5,4 +5,4 @@ use Rattle.interflect.proofs.surfels.interflect_grid_build.Goals as goal
 
 pub returns : goal.returns
 returns c =
-    told_with_two left c.tell_dims.ensures c.grid_build-answer.ensures
+    told_with_two left c.tell_dims.ensures (rw (c.vec.ensures, c.vec-2.ensures) at c.grid_build-answer.ensures)

@@ -5,4 +5,4 @@ use Rattle.interflect.proofs.surfels.interflect_near.Goals as goal
 
 pub returns : goal.returns
 returns c =
-    told_with left c.tell_count.ensures c.near-answer.ensures
+    told_with left c.tell_count.ensures (rw (c.vec.ensures, c.vec-2.ensures, c.vec-p.ensures) at c.near-answer.ensures)
