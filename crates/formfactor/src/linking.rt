@@ -23,7 +23,8 @@ impl Setting<'_> {
     {
         let raw = self.raw_links(a, link, weight);
         let above = hemisphere_closure(self.scene, a.p, a.n, self.diag * 2.0);
-        let sum = calibrate(weight, raw.links, target_of(above.sky), raw.sum);
+        let row = &mut weight[..raw.links];
+        let sum = calibrate(row, target_of(above.sky), raw.sum);
         RowMade {
             links: raw.links,
             sum: float::min(sum, 1.0),

@@ -1,7 +1,7 @@
 -- The weights of a row, one more at a time: summed and scaled. Assumes nothing.
 use mathlib.Core.List.{List, [], ◌∷◌, ◌++◌}
 use mathlib.Core.Path.{◌≡◌, refl, sym, ap, ◌∙◌}
-use Prim.Native.Nat.{ℕ, min}
+use Prim.Native.Nat.{ℕ, ◌≤◌}
 use native.Mathlib.Numerals.{add-one}
 use native.Mathlib.Omega.{arith}
 use lib.Ieee.{Float, binary32, nan, of_bits, lt}
@@ -10,7 +10,7 @@ use lib.Seq.{sets, get_or-append_seam}
 use Rattle.float.specs.Arithmetic.{◌+f◌, ◌*f◌, 0f}
 use Rattle.float.specs.Column.{float_at}
 use Rattle.vector.specs.Fold.{fold}
-use Rattle.vector.proofs.Stored.{sets_front, take_reached}
+use Rattle.vector.proofs.Stored.{sets_front}
 use Rattle.vector.proofs.Sums.{fold_same}
 use Rattle.field.proofs.Chosen.{chosen}
 use Rattle.links.specs.Scaling.{row_sum, scale_to, scaled_by, calibrated}
@@ -31,14 +31,15 @@ pub length_scaled : (k : Float) (xs : List Float) → length (scaled_by k xs) �
 unfolding scaled_by
 length_scaled k xs = length-map xs (λ (w : Float). w *f k)
 
--- the first k weights scaled, as far as there are so many, and the others as they were
-pub scaled_front : (scale : Float) (w : List Float) (k : ℕ)
-    → scaled_by scale (take (min k (length w)) w) ++ drop (min k (length w)) w ≡ sets w 0 (scaled_by scale (take k w))
-scaled_front scale w k =
-    let n : length (scaled_by scale (take k w)) ≡ min k (length w) = length_scaled scale (take k w) ∙ length-take k w in
-    rw take_reached (sym (sets_front w (scaled_by scale (take k w)) (omega (arith, n)) ∙ ap (λ (i : ℕ). scaled_by scale (take k w) ++ drop i w) n))
-
 pub length_calibrated : (target sum : Float) (ws : List Float) → length (calibrated target sum ws) ≡ length ws
 unfolding calibrated
 length_calibrated target sum ws =
     chosen (λ (l : List Float). length l ≡ length ws) (lt (of_bits binary32 0x3727_c5ac) sum) (scaled_by (scale_to target sum) ws) ws (length_scaled (scale_to target sum) ws) refl
+
+-- the first k weights calibrated as a row of their own, and the others as they were
+pub calibrated_front : (target sum : Float) (w : List Float) (k : ℕ) {row : List Float}
+    → k ≤ length w → row ≡ calibrated target sum (take k w) → row ++ drop k w ≡ sets w 0 (calibrated target sum (take k w))
+calibrated_front target sum w k {row} h e =
+    let ws = calibrated target sum (take k w) in
+    let n : length ws ≡ k = length_calibrated target sum (take k w) ∙ simp length-take (omega arith) in
+    rw e (sym (sets_front w ws (omega (arith, n)) ∙ ap (λ (i : ℕ). ws ++ drop i w) n))

@@ -1,6 +1,5 @@
 // What the links of a surfel should sum to, and their scaling to it.
-ghost use Rattle.std.specs.Prelude.{◌≡◌, take};
-ghost use Rattle.std.proofs.lemmas.List.Edits.{sets};
+ghost use Rattle.std.specs.Prelude.{◌≡◌};
 ghost use Rattle.links.specs.Scaling.{target_of, scaled_by, calibrated, calibrated_sum};
 
 // What a row's sum should be, where this part of the hemisphere is open.
@@ -11,16 +10,15 @@ pub fn target_of(sky: f32) -> f32
     float::clamp(1.0 - sky, 0.0, 1.0)
 }
 
-// Scales the first k weights, as far as the slice reaches, to the target where their sum, which is
-// given, exceeds 1e-5; the sum after that.
-pub fn calibrate(weight: &mut [f32], k: usize, target: f32, sum: f32) -> f32
+// Scales the weights of a row to the target where their sum, which is given, exceeds 1e-5; the sum
+// after that.
+pub fn calibrate(row: &mut [f32], target: f32, sum: f32) -> f32
     ensures value { result ≡ calibrated_sum target sum }
-    ensures weight_after { weight.new ≡ sets weight.old 0 (calibrated target sum (take k weight.old)) }
+    ensures row_after { row.new ≡ calibrated target sum row.old }
 {
     if sum > 1e-5 {
         let scale = float::min(target / sum, 8.0);
-        let end = k.min(weight.len());
-        rescale(&mut weight[..end], scale);
+        rescale(row, scale);
         sum * scale
     } else {
         sum
