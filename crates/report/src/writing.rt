@@ -9,7 +9,7 @@ ghost use Rattle.report.specs.Needs.{seen_in as Needs·seen_in};
 
 use file::Counts;
 use lines::Line;
-use solve::{SolveStats, settled};
+use solve::SolveStats;
 use vector::Vec3;
 
 // Puts a line.
@@ -30,8 +30,7 @@ pub fn put_head(text: &mut [u8], c: Counts, made: SolveStats) -> usize
     ensures value { result ≡ length (head_lines c made.bounces made.change) }
 {
     let counts = lines::counts(c.surfels, c.clusters, c.links);
-    let SolveStats { bounces, change } = made;
-    let run = lines::bounces(bounces as u32, change, settled(bounces, change));
+    let run = lines::bounces(made.bounces as u32, made.change, made.settled());
     let end = put_line(text, counts);
     end + put_line(&mut text[end..], run)
 }

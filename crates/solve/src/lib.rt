@@ -15,7 +15,6 @@ mod surfels;
 mod triples;
 
 pub use entries::solve;
-pub use running::settled;
 
 // What a solve made: how many bounces, and the greatest absolute step of any channel of rad in the
 // last of them, 0 if it made none.

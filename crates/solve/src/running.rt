@@ -76,11 +76,3 @@ impl SolveStats {
         self.stopped()
     }
 }
-
-// Whether a run that made so many bounces is settled: it made one, and its last change is under
-// 0.0001.
-pub fn settled(bounces: usize, change: f32) -> bool
-    ensures { result ≡ settled bounces change }
-{
-    SolveStats { bounces, change }.settled()
-}
