@@ -46,13 +46,13 @@ pub fn probe(number: u32, seen: Option<Vec3>) -> Line
 
 // A probe's number, a word, and a light.
 #[tactic(auto, unfolding(crate::specs::Lines::worded_line))]
-fn worded(number: u32, word: &[u8], light: Vec3) -> Line
+fn worded(probe: u32, word: &[u8], light: Vec3) -> Line
     requires { length word.now ≤ 7 }
-    ensures { result ≡ worded_line number word.now light }
+    ensures { result ≡ worded_line probe word.now light }
 {
     Line::empty()
         .with(b"probe ")
-        .with_decimal(number)
+        .with_decimal(probe)
         .with(word)
         .with(b" ")
         .with_float(light.x)
