@@ -1,4 +1,4 @@
--- What the functions beneath the public ones ask of each other. Definitions only.
+-- What the functions beneath the public ones ask of each other, and promise. Definitions only.
 use Rattle.std.specs.Prelude.{cond, List, ◌++◌, ℕ, ◌+◌, ◌<◌, ◌≤◌, leb, length, drop, Option, Some, None}
 use Rattle.file.specs.declared.Column.{Column}
 use Rattle.file.specs.declared.Counts.{Counts}
