@@ -486,7 +486,7 @@ uint32_t interflect_room_read(
  * Outs: length, how many bytes the report has.
  * Refuses 4, before it looks at the file: text too short. A file that is refused is reported, and the
  * result is then INTERFLECT_DONE.
- * The call works on some 1.3 MB of stack. */
+ * The call works on some 1.1 MB of stack. */
 uint32_t interflect_room_report(
     const uint8_t *bytes, size_t bytes_len,
     uint8_t *text, size_t text_len,

@@ -4,7 +4,7 @@ ghost use Rattle.std.specs.Prelude.{◌≡◌};
 ghost use Rattle.interflect.specs.Reporting.{interflect_room_report};
 
 // Writes what `roomlight` prints of the file to the front of text: length becomes how many bytes it
-// is. text has 131,072 bytes or more. The call works on some 1.3 MB of stack.
+// is. text has 131,072 bytes or more. The call works on some 1.1 MB of stack.
 #[unsafe(no_mangle)]
 pub extern "C" fn interflect_room_report(bytes: &[u8], text: &mut [u8], length: &mut usize) -> u32
     ensures { (result, length.new, text.new)

@@ -6,7 +6,7 @@ use crate::lent::{RoomColumns, RoomHeader};
 use crate::refused::Refused;
 use std::thread;
 
-/// The stack of the thread that a report is made on. The entry works in local arrays of some 1.3 MB.
+/// The stack of the thread that a report is made on. The entry works in local arrays of some 1.1 MB.
 const REPORT_STACK: usize = 4 << 20;
 
 /// Reads the bytes of a room file into lent columns, as the solve and the reading take them, and
