@@ -2,23 +2,17 @@
 // is stored.
 use crate::words;
 use clusters::{Columns, Cut, Surfels};
-use replay::{Words, lent, lent_mut, vec};
+use replay::{Words, lent, lent_mut};
 use stored_rows::Stored;
 
-// The clusters: how many, and how many members. The call is told how many surfels there are, the
-// resolution and the bounds.
-pub fn clusters(s: &mut Stored, told: [u32; 16]) -> Words {
+// The clusters of the first n surfels: how many, and how many members.
+pub fn clusters(s: &mut Stored, n: usize, cut: Cut) -> Words {
     let lengths = s.clusters_lent;
     let surfels = Surfels {
-        n: told[0] as usize,
+        n,
         p: lent(&s.surfels.p, lengths.p),
         normals: lent(&s.surfels.normals, lengths.normals),
         area: lent(&s.surfels.area, lengths.area),
-    };
-    let cut = Cut {
-        lo: vec(told[2], told[3], told[4]),
-        hi: vec(told[5], told[6], told[7]),
-        res: told[1] as usize,
     };
     let columns = Columns {
         p: lent_mut(&mut s.clusters.p, lengths.cluster_p),

@@ -5,4 +5,5 @@ mod ask;
 mod words;
 
 pub use ask::clusters;
+pub use clusters::Cut;
 pub use words::bucket;

@@ -1,7 +1,7 @@
 // Answers as words: the number of a refusal alone, or zero and what was answered.
 use accept::Refusal;
 use clusters::Clustered;
-use replay::{Words, refused, short};
+use replay::{Words, short, told};
 use vector::Vec3;
 
 // The bucket of a normal. It is never refused.
@@ -11,10 +11,9 @@ pub fn bucket(n: Vec3) -> Words {
 
 // How many clusters, and how many members.
 pub fn clustered(answer: Result<Clustered, Refusal>) -> Words {
-    match answer {
-        Ok(made) => refused(0)
+    told(answer.map(|made| {
+        Words::answered()
             .with(short(made.clusters))
-            .with(short(made.members)),
-        Err(refusal) => refused(u32::from(refusal)),
-    }
+            .with(short(made.members))
+    }))
 }

@@ -1,13 +1,13 @@
 // A stored scene and what is stored beside it lent to a call for placement, of each table as much as
 // is lent. What the call writes is stored.
+use crate::Told;
 use placement::Request;
-use replay::{Words, counted, lent, lent_mut, vec};
+use replay::{Words, counted, lent, lent_mut};
 use stored_placement::Stored;
 use tables::Scene;
 
-// The surfels: how many were placed. The call is told how many materials there are, how many surfels
-// are wanted, and the bounds.
-pub fn generate(scene: &stored::Stored, s: &mut Stored, told: [u32; 16]) -> Words {
+// The surfels: how many were placed.
+pub fn generate(scene: &stored::Stored, s: &mut Stored, told: Told) -> Words {
     let lengths = s.lent;
     let all = scene.scene();
     let scene = Scene {
@@ -19,11 +19,11 @@ pub fn generate(scene: &stored::Stored, s: &mut Stored, told: [u32; 16]) -> Word
     };
     let request = Request {
         scene,
-        mats: told[0] as usize,
+        mats: told.mats,
         materials: lent(&s.materials, lengths.materials),
-        lo: vec(told[2], told[3], told[4]),
-        hi: vec(told[5], told[6], told[7]),
-        target: told[1] as usize,
+        lo: told.lo,
+        hi: told.hi,
+        target: told.target,
     };
     counted(placement::generate(
         &request,

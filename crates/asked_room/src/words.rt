@@ -1,17 +1,18 @@
 // Answers as words: the number of a refusal alone, or zero and what was answered.
-use accept::{Refusal, refusal_number};
-use replay::{Words, refused, short};
+use accept::Refusal;
+use replay::{Words, short, told};
 use solve::SolveStats;
 
 // How many bounces, and the last change.
 pub fn solved(answer: Result<SolveStats, Refusal>) -> Words {
-    match answer {
-        Ok(made) => refused(0).with(short(made.bounces)).with_float(made.change),
-        Err(refusal) => refused(u32::from(refusal)),
-    }
+    told(answer.map(|made| {
+        Words::answered()
+            .with(short(made.bounces))
+            .with_float(made.change)
+    }))
 }
 
 // Nothing more.
 pub fn reset(answer: Result<(), Refusal>) -> Words {
-    refused(refusal_number(answer))
+    told(answer.map(|()| Words::answered()))
 }

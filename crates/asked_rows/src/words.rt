@@ -1,15 +1,15 @@
 // The answer as words: the number of a refusal, or zero and what was answered.
 use formfactor::{BuildError, Built};
-use replay::{Words, refused, short};
+use replay::{Words, full, refused, short};
 
 // How many links, the mean row sum and the evaluations; 8 and the row that does not fit.
 pub fn built(answer: Result<Built, BuildError>) -> Words {
     match answer {
-        Ok(made) => refused(0)
+        Ok(made) => Words::answered()
             .with(short(made.links))
             .with_float(made.mean_row_sum)
             .with(short(made.evals)),
-        Err(BuildError::Refused(refusal)) => refused(u32::from(refusal)),
-        Err(BuildError::Full(row)) => refused(8).with(short(row)),
+        Err(BuildError::Refused(refusal)) => refused(refusal),
+        Err(BuildError::Full(row)) => full(row),
     }
 }

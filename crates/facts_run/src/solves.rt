@@ -83,8 +83,10 @@ pub fn solve_q(limit: usize, q: SolvedQ) -> SolvedQ {
 // The twelve words of a solved room.
 fn words_of(q: SolvedQ) -> Words {
     let words = match q.answer {
-        Ok(made) => refused(0).with(short(made.bounces)).with_float(made.change),
-        Err(refusal) => refused(u32::from(refusal)).with(0).with_float(0.0),
+        Ok(made) => Words::answered()
+            .with(short(made.bounces))
+            .with_float(made.change),
+        Err(refusal) => refused(refusal).with(0).with_float(0.0),
     };
     words
         .with_vector(vector::at(&q.irr, 0))

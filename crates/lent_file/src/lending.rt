@@ -1,3 +1,5 @@
+ghost use Rattle.std.specs.Prelude.{◌≡◌};
+
 // How many places of each column are lent.
 #[derive(Clone, Copy)]
 pub struct Lent {
@@ -19,22 +21,43 @@ pub struct Lent {
 
 // The lengths are in the order of the fields.
 impl From<[u32; 16]> for Lent {
+    ghost use Rattle.lent_file.specs.Lent.{lent_of};
+
+    ghost from_gives = { λ w l. l ≡ lent_of w };
+
     fn from(w: [u32; 16]) -> Lent {
+        let [
+            p,
+            normals,
+            albedo,
+            area,
+            direct,
+            cluster_area,
+            first,
+            count,
+            member,
+            starts,
+            link_cluster,
+            link_weight,
+            probe_p,
+            probe_normals,
+            ..
+        ] = w.map(|w| w as usize);
         Lent {
-            p: w[0] as usize,
-            normals: w[1] as usize,
-            albedo: w[2] as usize,
-            area: w[3] as usize,
-            direct: w[4] as usize,
-            cluster_area: w[5] as usize,
-            first: w[6] as usize,
-            count: w[7] as usize,
-            member: w[8] as usize,
-            starts: w[9] as usize,
-            link_cluster: w[10] as usize,
-            link_weight: w[11] as usize,
-            probe_p: w[12] as usize,
-            probe_normals: w[13] as usize,
+            p,
+            normals,
+            albedo,
+            area,
+            direct,
+            cluster_area,
+            first,
+            count,
+            member,
+            starts,
+            link_cluster,
+            link_weight,
+            probe_p,
+            probe_normals,
         }
     }
 }

@@ -6,7 +6,7 @@ mod words;
 
 use float::of_bits;
 pub use lending::Lent;
-use replay::{Words, lent_mut, shown};
+use replay::{Words, lent_mut, shown_at};
 
 // The columns that a room file is read into, each of 64 places, in the order of the parameters of
 // `room_read`: of the surfels, of the clusters and their members, of the rows, of the probes.
@@ -53,7 +53,7 @@ impl Columns {
     // The words of what `room_read` answers where it is lent so many places of each of these columns;
     // more than there are mean all.
     pub fn read(&mut self, file: &[u8], lengths: Lent) -> Words {
-        words::told(room::room_read(
+        words::read(room::room_read(
             file,
             lent_mut(&mut self.p, lengths.p),
             lent_mut(&mut self.normals, lengths.normals),
@@ -73,24 +73,24 @@ impl Columns {
     }
 
     // Up to 16 words of the column of this number from place `at` on; none where there is no such
-    // column.
-    pub fn shown(&self, number: u32, at: usize) -> Words {
+    // column, or it has no such place.
+    pub fn shown(&self, number: u32, at: usize) -> Option<Words> {
         match number {
-            0 => shown(&self.p, at),
-            1 => shown(&self.normals, at),
-            2 => shown(&self.albedo, at),
-            3 => shown(&self.area, at),
-            4 => shown(&self.direct, at),
-            5 => shown(&self.cluster_area, at),
-            6 => shown(&self.first, at),
-            7 => shown(&self.count, at),
-            8 => shown(&self.member, at),
-            9 => shown(&self.starts, at),
-            10 => shown(&self.link_cluster, at),
-            11 => shown(&self.link_weight, at),
-            12 => shown(&self.probe_p, at),
-            13 => shown(&self.probe_normals, at),
-            _ => Words::none(),
+            0 => shown_at(&self.p, at),
+            1 => shown_at(&self.normals, at),
+            2 => shown_at(&self.albedo, at),
+            3 => shown_at(&self.area, at),
+            4 => shown_at(&self.direct, at),
+            5 => shown_at(&self.cluster_area, at),
+            6 => shown_at(&self.first, at),
+            7 => shown_at(&self.count, at),
+            8 => shown_at(&self.member, at),
+            9 => shown_at(&self.starts, at),
+            10 => shown_at(&self.link_cluster, at),
+            11 => shown_at(&self.link_weight, at),
+            12 => shown_at(&self.probe_p, at),
+            13 => shown_at(&self.probe_normals, at),
+            _ => None,
         }
     }
 }

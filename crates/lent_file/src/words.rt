@@ -1,15 +1,12 @@
 // The answer as words: the number of a refusal alone, or zero and what stands in the file beside its
 // columns.
 use accept::Refusal;
-use replay::{Words, refused};
+use replay::{Words, told};
 use room::Head;
 
 // The words of an answer.
-pub fn told(answer: Result<Head, Refusal>) -> Words {
-    match answer {
-        Ok(head) => with_bounds(with_counts(refused(0), head), head),
-        Err(refusal) => refused(u32::from(refusal)),
-    }
+pub fn read(answer: Result<Head, Refusal>) -> Words {
+    told(answer.map(|head| with_bounds(with_counts(Words::answered(), head), head)))
 }
 
 // These words, the five counts and the limit of bounces.

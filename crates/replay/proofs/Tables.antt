@@ -4,6 +4,7 @@ use Rattle.std.proofs.Common.{◌++◌, replicate}
 use Rattle.std.proofs.lemmas.List.{map-id, drop-replicate, length-replicate}
 use Rattle.std.proofs.lemmas.Grind.{common_steps}
 use Rattle.std.proofs.lemmas.List.Edits.{sets, sets-eq}
+use Rattle.std.proofs.Math.ListN.{set}
 use Rattle.std.proofs.Math.Seq.{set_out}
 use Rattle.replay.specs.Words.{with}
 
@@ -11,6 +12,11 @@ use Rattle.replay.specs.Words.{with}
 pub sets_none : {X : Type 0} (l : List X) (i : ℕ) (xs : List X) → min (length xs) (length l - i) ≡ 0 → sets l i xs ≡ l
 sets_none l i [] h = refl
 sets_none l i (x ∷ xs) h = rw (set_out l i x (omega arith)) (sets_none l (suc i) xs (omega arith))
+
+-- one more word is stored, the next that has a place
+pub sets_next : {X : Type 0} (f : ℕ → X) (l : List X) (at k n : ℕ) (words : List ℕ) → k < length (take n words)
+    → sets (set l (at + k) (f (get_or (take n words) k 0))) (at + (k + 1)) (map f (drop (k + 1) words)) ≡ sets l (at + k) (map f (drop k words))
+sets_next f l at k n words h = grind (arith, common_steps)
 
 -- words put into zeros from the first on
 pub padded : (n : ℕ) (words : List ℕ) → length words ≤ n → sets (replicate n 0) 0 (map (λ w. w) words) ≡ words ++ replicate (n - length words) 0

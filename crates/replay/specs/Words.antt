@@ -1,5 +1,5 @@
 -- Words put together one after the other, for the programs that replay answers. Definitions only.
-use Rattle.std.specs.Prelude.{cond, ℕ, ltb, List, [], ◌∷◌, ◌++◌, length, ◌%◌, Result, Ok, Err}
+use Rattle.std.specs.Prelude.{cond, ℕ, ltb, List, [], ◌∷◌, ◌++◌, length, ◌-◌, ◌%◌, replicate, Result, Ok, Err}
 use Rattle.std.proofs.lemmas.List.Edits.{sets}
 use Rattle.accept.specs.Refusal.{number_of}
 use Rattle.accept.specs.declared.refusal.Refusal.{Refusal}
@@ -11,6 +11,19 @@ none = []
 -- one more word; unchanged where there are 16
 abbrev pub with : List ℕ → ℕ → List ℕ
 with r w = cond (ltb (length r) 16) (r ++ (w ∷ [])) r
+
+-- 0, which begins each answer that is no refusal
+abbrev pub answered : List ℕ
+answered = with none 0
+
+-- the words of an answer, or the refusal's number alone
+abbrev pub told : Result (List ℕ) Refusal → List ℕ
+told (Ok words) = words
+told (Err refusal) = with none (number_of refusal)
+
+-- sixteen words: those given, and zeros after them
+abbrev pub padded : List ℕ → List ℕ
+padded given = given ++ replicate (16 - length given) 0
 
 -- how many were counted, as far as a word holds it, after 0; or the refusal's number alone
 abbrev pub counted : Result ℕ Refusal → List ℕ

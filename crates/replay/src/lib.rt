@@ -11,6 +11,6 @@ mod table;
 mod words;
 
 pub use line::{Line, Lines};
-pub use replaying::{Replay, print_table, run};
-pub use table::{Word, lent, lent_mut, part, put, put_at, shown};
-pub use words::{Words, counted, refused, short, vec};
+pub use replaying::{Replay, print_answer, print_table, run};
+pub use table::{Word, lent, lent_mut, part, put, put_at, shown, shown_at};
+pub use words::{Words, counted, full, refused, short, told, vec};

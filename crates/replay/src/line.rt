@@ -1,11 +1,12 @@
 // Lines, their names and their words.
-ghost use Rattle.std.specs.Prelude.{◌≡◌, ◌==◌, position};
-ghost use Rattle.replay.specs.Lines.{line_length as Lines·line_length, name_of as Lines·name_of};
+ghost use Rattle.std.specs.Prelude.{◌≡◌, ◌==◌, position, MatchOption};
+ghost use Rattle.replay.specs.Lines.{line_length as Lines·line_length, name_of as Lines·name_of, words_after, words_in as Lines·words_in, words_of as Lines·words_of};
 
 use crate::Words;
 
-// The lines of a text, in order: each ends after its newline, the last maybe without one. They are the
-// pieces that the library's `split_inclusive` gives, and here a definition names them.
+// The lines of a text, in order: each ends after its newline, the last maybe without one.
+// Kept: the library's `split_inclusive` gives the same pieces, but its clause tells one step at a time;
+// here one definition, `lines_of`, tells all of them, and refuses a line without its newline.
 #[derive(Drop)]
 pub struct Lines<'a>(pub &'a [u8]);
 
@@ -44,14 +45,14 @@ pub struct Line<'a> {
 }
 
 impl<'a> Line<'a> {
-    // The line that these bytes are. It has no name where they have no space, and no words where
-    // anything but up to 16 words and a newline stands after the name.
-    pub fn of(line: &'a [u8]) -> Line<'a>
-        ensures { result.name.now ≡ Lines·name_of line.now }
+    // The line that these bytes are; none where anything but up to 16 words and a newline stands after
+    // the name. It has no name where they have no space.
+    pub fn of(line: &'a [u8]) -> Option<Line<'a>>
+        ensures { MatchOption result (words_after line.now ≡ None) (λ l. (l.name.now ≡ Lines·name_of line.now) × (words_after line.now ≡ Some l.given)) }
     {
         let name = name_of(line);
-        let given = words_of(&line[name.len()..]).unwrap_or(Words::none());
-        Line { name, given }
+        let given = words_of(&line[name.len()..])?;
+        Some(Line { name, given })
     }
 }
 
@@ -71,14 +72,25 @@ fn place_of(byte: u8, s: &[u8]) -> Option<usize>
 }
 
 // Up to 16 words, a space before each, and a newline; none where s is anything else.
-fn words_of(s: &[u8]) -> Option<Words> {
-    let given = s.strip_suffix(b"\n")?;
-    if 16 * 9 < given.len() {
-        return None;
-    }
+fn words_of(s: &[u8]) -> Option<Words>
+    ensures { result ≡ Lines·words_of s.now }
+{
+    words_in(s.strip_suffix(b"\n")?)
+}
+
+// Up to 16 words, a space before each; none where s is anything else.
+fn words_in(s: &[u8]) -> Option<Words>
+    ensures { result ≡ Lines·words_in 16 s.now }
+{
+    let mut rest = s;
     let mut words = Words::none();
-    for word in given.chunks(9) {
-        words = words.with(text::word(word.strip_prefix(b" ")?)?);
+    for _ in 0..16usize {
+        if rest.is_empty() {
+            break;
+        }
+        let digits = rest.strip_prefix(b" ")?;
+        words = words.with(text::word(digits)?);
+        rest = &digits[8..];
     }
-    Some(words)
+    rest.is_empty().then_some(words)
 }

@@ -13,26 +13,35 @@ pub trait Replay {
     fn store(&mut self, line: &Line<'_>) -> bool;
 
     // The result words of the question that a line is; none where it is no question.
-    fn answer(&mut self, line: &Line<'_>) -> Words;
+    fn answer(&mut self, line: &Line<'_>) -> Option<Words>;
 
     // Prints the answer to a line that stores nothing.
     fn print(&mut self, out: &mut impl Write, line: &Line<'_>) -> io::Result<()> {
-        writeln!(out, "{}", self.answer(line))
+        print_answer(out, self.answer(line))
     }
 }
 
-// Stores or answers each line of standard input.
+// Stores or answers each line of standard input, and prints `unread` for what is no line.
 pub fn run(rt: &(impl Input + Print + Alloc), replayed: &mut impl Replay) -> io::Result<()> {
     let mut text = Vec::new(rt.alloc());
     rt.reader().take(MAX_TEXT).read_to_end(&mut text)?;
     let mut out = BufWriter::new(rt.alloc(), io::writer(rt))?;
     for bytes in Lines(&text) {
-        let line = Line::of(bytes);
-        if !replayed.store(&line) {
-            replayed.print(&mut out, &line)?;
+        match Line::of(bytes) {
+            None => print_answer(&mut out, None)?,
+            Some(line) if replayed.store(&line) => {}
+            Some(line) => replayed.print(&mut out, &line)?,
         }
     }
     out.flush()
+}
+
+// Prints the words of an answer on a line, or `unread` where there is none.
+pub fn print_answer(out: &mut impl Write, answer: Option<Words>) -> io::Result<()> {
+    match answer {
+        Some(words) => writeln!(out, "{words}"),
+        None => writeln!(out, "unread"),
+    }
 }
 
 // Prints what a table holds from place `at` on, 16 words to a line; the last is the one with the last

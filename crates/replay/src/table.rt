@@ -1,6 +1,6 @@
 // Tables of numbers and of floats, as the replay programs store them: words put into a table, words
 // shown of it, and how much of it is lent.
-ghost use Rattle.std.specs.Prelude.{◌≡◌, ℕ, min, map, take, drop};
+ghost use Rattle.std.specs.Prelude.{◌≡◌, ℕ, Some, None, cond, ltb, length, min, map, take, drop};
 ghost use Rattle.std.proofs.lemmas.List.Edits.{sets};
 ghost use Rattle.replay.specs.Words.{sets_from};
 
@@ -69,8 +69,8 @@ pub fn put_at<W: Word>(table: &mut [W], at: usize, words: &[u32])
     ensures { table.new ≡ sets table.old at (map W.read words.now) }
 {
     let places = table.len().saturating_sub(at);
-    for k in 0..words.len().min(places) {
-        table[at + k] = W::of_word(words[k]);
+    for (k, word) in lent(words, places).iter().enumerate() {
+        table[at + k] = W::of_word(*word);
     }
 }
 
@@ -87,6 +87,13 @@ pub fn shown<W: Word>(table: &[W], at: usize) -> Words
     words
 }
 
+// Up to 16 words of a table from place `at` on; none where it has no such place.
+pub fn shown_at<W: Word>(table: &[W], at: usize) -> Option<Words>
+    ensures { result ≡ cond (ltb at (length table.now)) (Some (map W.bits (take 16 (drop at table.now)))) None }
+{
+    (at < table.len()).then(|| shown(table, at))
+}
+
 // As much of a table as is asked for, at most all of it.
 pub fn lent<T>(table: &[T], length: usize) -> &[T]
     ensures { result.now ≡ take length table.now }
@@ -95,6 +102,8 @@ pub fn lent<T>(table: &[T], length: usize) -> &[T]
 }
 
 // The same of a table that a call writes.
+// Kept: no clause on the table afterwards. Tried with the library's `Lends`: the check proves it of a
+// field and of a call's result alone, and the result here is a range.
 pub fn lent_mut<T>(table: &mut [T], length: usize) -> &mut [T]
     ensures { result.now ≡ take length table.old }
 {

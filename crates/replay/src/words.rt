@@ -2,8 +2,9 @@
 ghost use Rattle.std.specs.Prelude.{◌≡◌, ◌%◌};
 ghost use Rattle.std.specs.Float.{binary32};
 ghost use Rattle.std.specs.Float.Ieee.{to_bits};
+ghost use Rattle.accept.specs.Refusal.{number_of};
 ghost use Rattle.replay.specs.Vectors.{vector_of};
-ghost use Rattle.replay.specs.Words.{counted, none, with as Words·with};
+ghost use Rattle.replay.specs.Words.{answered, counted, none, told, with as Words·with};
 
 use crate::put_at;
 use accept::Refusal;
@@ -13,8 +14,7 @@ use std::fmt;
 use std::marker::Model;
 use vector::Vec3;
 
-// Up to 16 words, the operands or the result of a case. They are shown with a space between two, and
-// as `unread` where there is none.
+// Up to 16 words, the operands or the result of a case. They are shown with a space between two.
 #[derive(Drop)]
 pub struct Words {
     words: ArrayVec<u32, 16>,
@@ -39,6 +39,13 @@ impl Words {
         Words {
             words: ArrayVec::new(),
         }
+    }
+
+    // 0, which begins each answer that is no refusal.
+    pub fn answered() -> Words
+        ensures { result ≡ answered }
+    {
+        Words::none().with(0)
     }
 
     // How many there are.
@@ -92,23 +99,41 @@ impl Words {
 
 impl fmt::Display for Words {
     fn fmt<W: fmt::Write>(&self, f: &mut fmt::Formatter<W>) -> fmt::Result {
-        let Some((first, others)) = self.words.split_first() else {
-            return f.write_str("unread");
-        };
-        write!(f, "{first:08X}")?;
-        for word in others {
-            write!(f, " {word:08X}")?;
+        let mut between = "";
+        for word in self.words.iter() {
+            write!(f, "{between}{word:08X}")?;
+            between = " ";
         }
         Ok(())
     }
 }
 
-// A refusal's number alone; 0 starts every other answer.
-// Kept: a number and no `Refusal`, since 0 and 8, a row that does not fit, are none.
-pub fn refused(number: u32) -> Words
-    ensures { result ≡ Words·with none number }
+// A refusal's number alone.
+pub fn refused(refusal: Refusal) -> Words
+    ensures { result ≡ Words·with none (number_of refusal) }
 {
-    Words::none().with(number)
+    Words::none().with(u32::from(refusal))
+}
+
+// 8 and the row whose links don't fit.
+pub fn full(row: usize) -> Words
+    ensures { result ≡ Words·with (Words·with none 8) (row % 4294967296) }
+{
+    Words::none().with(8).with(short(row))
+}
+
+// The words of an answer, or the refusal's number alone.
+pub fn told(answer: Result<Words, Refusal>) -> Words
+    ensures { result ≡ told answer }
+{
+    answer.unwrap_or_else(|refusal| refused(refusal))
+}
+
+// 0 and how many were counted, or the refusal's number alone.
+pub fn counted(answer: Result<usize, Refusal>) -> Words
+    ensures { result ≡ counted answer }
+{
+    told(answer.map(|count| Words::answered().with(short(count))))
 }
 
 // A number as a word, as far as it fits.
@@ -117,16 +142,6 @@ pub fn short(x: usize) -> u32
     ensures { result ≡ x % 4294967296 }
 {
     (x % 4294967296) as u32
-}
-
-// 0 and how many were counted, or the refusal's number alone.
-pub fn counted(answer: Result<usize, Refusal>) -> Words
-    ensures { result ≡ counted answer }
-{
-    match answer {
-        Ok(count) => refused(0).with(short(count)),
-        Err(refusal) => refused(u32::from(refusal)),
-    }
 }
 
 // The vector of three words.

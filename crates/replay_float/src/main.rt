@@ -21,7 +21,7 @@ impl Replay for Operations {
         false
     }
 
-    fn answer(&mut self, line: &Line<'_>) -> Words {
+    fn answer(&mut self, line: &Line<'_>) -> Option<Words> {
         answer::to(line)
     }
 }

@@ -5,7 +5,9 @@
 
 mod show;
 
-use replay::{Line, Replay, Words, vec};
+use asked_clusters::Cut;
+use asked_rows::Told;
+use replay::{Line, Replay, Words, print_answer, vec};
 use std::io;
 use stored::Stored as Scene;
 use stored_rows::Stored;
@@ -28,14 +30,21 @@ impl Replay for Calls {
         self.scene.store(line) || self.stored.store(line)
     }
 
-    fn answer(&mut self, line: &Line<'_>) -> Words {
-        let told = line.given.padded();
-        match (line.name, line.given.len()) {
-            (b"clusters", 8) => asked_clusters::clusters(&mut self.stored, told),
-            (b"rows", 8) => asked_rows::rows(&self.scene, &mut self.stored, told),
-            (b"bucket", 3) => asked_clusters::bucket(vec(told[0], told[1], told[2])),
-            _ => Words::none(),
-        }
+    fn answer(&mut self, line: &Line<'_>) -> Option<Words> {
+        Some(match (line.name, line.given.as_slice()) {
+            (b"clusters", [n, res, x, y, z, u, v, w]) => {
+                let (lo, hi) = (vec(*x, *y, *z), vec(*u, *v, *w));
+                let res = *res as usize;
+                asked_clusters::clusters(&mut self.stored, *n as usize, Cut { lo, hi, res })
+            }
+            (b"rows", [n, nc, x, y, z, u, v, w]) => {
+                let (lo, hi) = (vec(*x, *y, *z), vec(*u, *v, *w));
+                let (n, nc) = (*n as usize, *nc as usize);
+                asked_rows::rows(&self.scene, &mut self.stored, Told { n, nc, lo, hi })
+            }
+            (b"bucket", [x, y, z]) => asked_clusters::bucket(vec(*x, *y, *z)),
+            _ => return None,
+        })
     }
 
     // Shows what the tables hold, or prints a call's answer.
@@ -43,7 +52,7 @@ impl Replay for Calls {
         match line.name {
             b"show_clusters" => show::clusters(out, &self.stored, line.given.padded()[0] as usize),
             b"show_rows" => show::rows(out, &self.stored, line.given.padded()[0] as usize),
-            _ => writeln!(out, "{}", self.answer(line)),
+            _ => print_answer(out, self.answer(line)),
         }
     }
 }

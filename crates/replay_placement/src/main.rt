@@ -5,7 +5,8 @@
 
 mod show;
 
-use replay::{Line, Replay, Words};
+use asked_placement::Told;
+use replay::{Line, Replay, Words, print_answer, vec};
 use std::io;
 use stored::Stored as Scene;
 use stored_placement::Stored;
@@ -28,20 +29,25 @@ impl Replay for Calls {
         self.scene.store(line) || self.stored.store(line)
     }
 
-    fn answer(&mut self, line: &Line<'_>) -> Words {
-        match (line.name, line.given.len()) {
-            (b"generate", 8) => {
-                asked_placement::generate(&self.scene, &mut self.stored, line.given.padded())
-            }
-            _ => Words::none(),
-        }
+    fn answer(&mut self, line: &Line<'_>) -> Option<Words> {
+        let (b"generate", [mats, target, x, y, z, u, v, w]) = (line.name, line.given.as_slice())
+        else {
+            return None;
+        };
+        let told = Told {
+            mats: *mats as usize,
+            target: *target as usize,
+            lo: vec(*x, *y, *z),
+            hi: vec(*u, *v, *w),
+        };
+        Some(asked_placement::generate(&self.scene, &mut self.stored, told))
     }
 
     // Shows what the tables hold, or prints a call's answer.
     fn print(&mut self, out: &mut impl io::Write, line: &Line<'_>) -> io::Result<()> {
         match line.name {
             b"show" => show::tables(out, &self.stored, line),
-            _ => writeln!(out, "{}", self.answer(line)),
+            _ => print_answer(out, self.answer(line)),
         }
     }
 }

@@ -44,15 +44,15 @@ impl Replay for Readings {
 
     // The result words of a reading of the first so many bytes of the file, more than there are meaning
     // all; or up to 16 words of a column from a place on; none where the line asks neither.
-    fn answer(&mut self, line: &Line<'_>) -> Words {
+    fn answer(&mut self, line: &Line<'_>) -> Option<Words> {
         let w = line.given.padded();
         match line.name {
             b"read" => {
                 let file = lent(self.file.as_slice(), w[0] as usize);
-                self.columns.read(file, self.lengths)
+                Some(self.columns.read(file, self.lengths))
             }
             b"show" => self.columns.shown(w[0], w[1] as usize),
-            _ => Words::none(),
+            _ => None,
         }
     }
 }

@@ -12,7 +12,7 @@ pub fn room(
 ) -> io::Result<()> {
     match report::room_report(lent(file, length), text) {
         Ok(end) => out.write_all(lent(text, end)),
-        Err(refusal) => writeln!(out, "{}", refused(u32::from(refusal))),
+        Err(refusal) => writeln!(out, "{}", refused(refusal)),
     }
 }
 

@@ -5,7 +5,7 @@
 
 mod ask;
 
-use replay::{Line, Replay, Words};
+use replay::{Line, Replay, Words, print_answer};
 use std::io;
 
 // The file and the text of its report are zeros at first.
@@ -27,17 +27,17 @@ impl Replay for Reports {
         stored_file::store(self.file.as_mut_slice(), line)
     }
 
-    fn answer(&mut self, line: &Line<'_>) -> Words {
+    fn answer(&mut self, line: &Line<'_>) -> Option<Words> {
         let w = line.given.padded();
         let (length, space) = (w[0] as usize, w[1] as usize);
         match line.name {
-            b"short" => ask::short(
+            b"short" => Some(ask::short(
                 self.file.as_slice(),
                 length,
                 self.report.as_mut_slice(),
                 space,
-            ),
-            _ => Words::none(),
+            )),
+            _ => None,
         }
     }
 
@@ -53,7 +53,7 @@ impl Replay for Reports {
                     self.report.as_mut_slice(),
                 )
             }
-            _ => writeln!(out, "{}", self.answer(line)),
+            _ => print_answer(out, self.answer(line)),
         }
     }
 }

@@ -3,66 +3,25 @@ use float::of_bits;
 use replay::{Line, Words, vec};
 use scene::Ray;
 use stored::Stored;
-use vector::Vec3;
 
 // The result words of the question that a line is; none where it is no question.
-pub fn to(s: &Stored, line: &Line<'_>) -> Words {
+pub fn to(s: &Stored, line: &Line<'_>) -> Option<Words> {
     let w = line.given.padded();
     let p = vec(w[0], w[1], w[2]);
-    match line.given.len() {
-        3 => of_point(s, line.name, p),
-        5 => of_projection(s, line.name, p, of_bits(w[3]), of_bits(w[4])),
-        7 => of_hemisphere(s, line.name, p, vec(w[3], w[4], w[5]), of_bits(w[6])),
-        8 => of_ray(s, line.name, ray(w)),
-        9 => of_light(s, line.name, ray(w), of_bits(w[8])),
-        _ => Words::none(),
-    }
-}
-
-// Distance and material, or the normal.
-fn of_point(s: &Stored, name: &[u8], p: Vec3) -> Words {
-    match name {
-        b"dist_mat" => asked::dist_mat(s, p),
-        b"dist_any" => asked::dist_any(s, p),
-        b"normal" => asked::normal(s, p),
-        b"normal_any" => asked::normal_any(s, p),
-        _ => Words::none(),
-    }
-}
-
-// Where the point comes to lie on the surface.
-fn of_projection(s: &Stored, name: &[u8], p: Vec3, eps: f32, diag: f32) -> Words {
-    match name {
-        b"project" => asked::project(s, p, eps, diag),
-        _ => Words::none(),
-    }
-}
-
-// How open the hemisphere is.
-fn of_hemisphere(s: &Stored, name: &[u8], p: Vec3, n: Vec3, tmax: f32) -> Words {
-    match name {
-        b"closure" => asked::closure(s, p, n, tmax),
-        b"closure_any" => asked::closure_any(s, p, n, tmax),
-        _ => Words::none(),
-    }
-}
-
-// What a ray meets.
-fn of_ray(s: &Stored, name: &[u8], ray: Ray) -> Words {
-    match name {
-        b"trace" => asked::trace(s, ray),
-        b"trace_any" => asked::trace_any(s, ray),
-        _ => Words::none(),
-    }
-}
-
-// How much of a light is seen.
-fn of_light(s: &Stored, name: &[u8], ray: Ray, k: f32) -> Words {
-    match name {
-        b"soft_shadow" => asked::soft_shadow(s, ray, k),
-        b"shadow_any" => asked::shadow_any(s, ray, k),
-        _ => Words::none(),
-    }
+    Some(match (line.name, line.given.len()) {
+        (b"dist_mat", 3) => asked::dist_mat(s, p),
+        (b"dist_any", 3) => asked::dist_any(s, p),
+        (b"normal", 3) => asked::normal(s, p),
+        (b"normal_any", 3) => asked::normal_any(s, p),
+        (b"project", 5) => asked::project(s, p, of_bits(w[3]), of_bits(w[4])),
+        (b"closure", 7) => asked::closure(s, p, vec(w[3], w[4], w[5]), of_bits(w[6])),
+        (b"closure_any", 7) => asked::closure_any(s, p, vec(w[3], w[4], w[5]), of_bits(w[6])),
+        (b"trace", 8) => asked::trace(s, ray(w)),
+        (b"trace_any", 8) => asked::trace_any(s, ray(w)),
+        (b"soft_shadow", 9) => asked::soft_shadow(s, ray(w), of_bits(w[8])),
+        (b"shadow_any", 9) => asked::shadow_any(s, ray(w), of_bits(w[8])),
+        _ => return None,
+    })
 }
 
 // The ray that eight words tell.

@@ -25,7 +25,7 @@ impl Replay for Questions {
         self.scene.store(line)
     }
 
-    fn answer(&mut self, line: &Line<'_>) -> Words {
+    fn answer(&mut self, line: &Line<'_>) -> Option<Words> {
         answer::to(&self.scene, line)
     }
 }

@@ -4,7 +4,7 @@ use replay::{Line, Words};
 use stored_room::Stored;
 
 // The result words of the question that a line is; none where it is no question.
-pub fn to(s: &mut Stored, line: &Line<'_>) -> Words {
+pub fn to(s: &mut Stored, line: &Line<'_>) -> Option<Words> {
     match (line.name, line.given.as_slice()) {
         (b"solve", [n, nc, members, links, limit]) => {
             let told = Counts {
@@ -14,7 +14,7 @@ pub fn to(s: &mut Stored, line: &Line<'_>) -> Words {
                 links: *links as usize,
                 limit: *limit as usize,
             };
-            asked_room::solve(s, told)
+            Some(asked_room::solve(s, told))
         }
         (b"reset", [light, direct, irr, rad]) => {
             let lengths = Lengths {
@@ -23,10 +23,10 @@ pub fn to(s: &mut Stored, line: &Line<'_>) -> Words {
                 irr: *irr as usize,
                 rad: *rad as usize,
             };
-            asked_room::reset(s, lengths)
+            Some(asked_room::reset(s, lengths))
         }
-        (b"records", [length]) => asked_room::reset_records(s, *length as usize),
+        (b"records", [length]) => Some(asked_room::reset_records(s, *length as usize)),
         (table, [at]) => s.shown(table, *at as usize),
-        _ => Words::none(),
+        _ => None,
     }
 }

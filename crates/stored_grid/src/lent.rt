@@ -1,10 +1,15 @@
 // What the words of a line say of a call: its box, and how much of each table it is lent.
+ghost use Rattle.std.specs.Prelude.{◌≡◌};
+ghost use Rattle.stored_grid.specs.Stores.{space_of};
+
 use float::of_bits;
 use grid::Space;
 use replay::vec;
 
 // The box that the words say, and the side of its cells.
-pub fn space_of(w: [u32; 16]) -> Space {
+pub fn space_of(w: [u32; 16]) -> Space
+    ensures { result ≡ space_of w }
+{
     Space {
         lo: vec(w[0], w[1], w[2]),
         hi: vec(w[3], w[4], w[5]),
@@ -13,6 +18,7 @@ pub fn space_of(w: [u32; 16]) -> Space {
 }
 
 // How many places of each table are lent.
+// Kept: lengths beside the tables and not with each, since one line gives all of them, in this order.
 #[derive(Clone, Copy)]
 pub struct Lent {
     pub p: usize,
@@ -29,18 +35,35 @@ pub struct Lent {
 
 // The lengths are in the order of the fields.
 impl From<[u32; 16]> for Lent {
+    ghost use Rattle.stored_grid.specs.Lent.{lent_of};
+
+    ghost from_gives = { λ w l. l ≡ lent_of w };
+
     fn from(w: [u32; 16]) -> Lent {
+        let [
+            p,
+            normals,
+            irr,
+            starts,
+            items,
+            list,
+            probe_p,
+            probe_normals,
+            seen,
+            light,
+            ..
+        ] = w.map(|w| w as usize);
         Lent {
-            p: w[0] as usize,
-            normals: w[1] as usize,
-            irr: w[2] as usize,
-            starts: w[3] as usize,
-            items: w[4] as usize,
-            list: w[5] as usize,
-            probe_p: w[6] as usize,
-            probe_normals: w[7] as usize,
-            seen: w[8] as usize,
-            light: w[9] as usize,
+            p,
+            normals,
+            irr,
+            starts,
+            items,
+            list,
+            probe_p,
+            probe_normals,
+            seen,
+            light,
         }
     }
 }

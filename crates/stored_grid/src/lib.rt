@@ -3,23 +3,21 @@
 // lacking; what has no place is not stored.
 #![tactic(auto)]
 
+ghost use Rattle.std.specs.Prelude.{◌≡◌};
+
 mod lent;
 
 use float::of_bits;
 use grid::Space;
 pub use lent::Lent;
 use lent::space_of;
-use replay::{Line, Words, put, put_at, shown};
+use replay::{Line, Words, put, put_at, shown_at};
 
 // A box, places for 32 surfels, 520 starts, 32 items, a list of 64, 8 probes and their readings.
 #[derive(Drop)]
 pub struct Stored {
-    pub space: Space,
-    pub p: [f32; 96],
-    pub normals: [f32; 96],
-    pub irr: [f32; 96],
-    pub starts: [u32; 520],
-    pub items: [u32; 32],
+    pub cells: Cells,
+    pub surfels: Surfels,
     pub list: [u32; 64],
     pub probe_p: [f32; 24],
     pub probe_normals: [f32; 24],
@@ -28,16 +26,38 @@ pub struct Stored {
     pub lent: Lent,
 }
 
+// A grid: its box, where the points of each cell begin, and the points.
+#[derive(Drop)]
+pub struct Cells {
+    pub space: Space,
+    pub starts: [u32; 520],
+    pub items: [u32; 32],
+}
+
+// Surfels: their points, their normals and their irradiance.
+#[derive(Drop)]
+pub struct Surfels {
+    pub p: [f32; 96],
+    pub normals: [f32; 96],
+    pub irr: [f32; 96],
+}
+
 impl Stored {
+    ghost use Rattle.stored_grid.specs.Stores.{filled};
+
     // Every place holds zero, and nothing is lent.
     pub fn nothing() -> Stored {
         Stored {
-            space: space_of([0; 16]),
-            p: [0.0; 96],
-            normals: [0.0; 96],
-            irr: [0.0; 96],
-            starts: [0; 520],
-            items: [0; 32],
+            cells: Cells {
+                space: space_of([0; 16]),
+                starts: [0; 520],
+                items: [0; 32],
+            },
+            surfels: Surfels {
+                p: [0.0; 96],
+                normals: [0.0; 96],
+                irr: [0.0; 96],
+            },
             list: [0; 64],
             probe_p: [0.0; 24],
             probe_normals: [0.0; 24],
@@ -55,11 +75,11 @@ impl Stored {
         let w = line.given.padded();
         let at = 3 * w[0] as usize;
         match line.name {
-            b"box" => self.space = space_of(w),
+            b"box" => self.cells.space = space_of(w),
             b"surfel" => {
-                put_at(&mut self.p, at, &w[1..4]);
-                put_at(&mut self.normals, at, &w[4..7]);
-                put_at(&mut self.irr, at, &w[7..10]);
+                put_at(&mut self.surfels.p, at, &w[1..4]);
+                put_at(&mut self.surfels.normals, at, &w[4..7]);
+                put_at(&mut self.surfels.irr, at, &w[7..10]);
             }
             b"probe" => {
                 put_at(&mut self.probe_p, at, &w[1..4]);
@@ -67,17 +87,19 @@ impl Stored {
             }
             b"lent" => self.lent = Lent::from(w),
             b"fill" => self.fill(w[0]),
-            b"put_starts" => put(&mut self.starts, &line.given),
-            b"put_items" => put(&mut self.items, &line.given),
+            b"put_starts" => put(&mut self.cells.starts, &line.given),
+            b"put_items" => put(&mut self.cells.items, &line.given),
             _ => return false,
         }
         true
     }
 
     // One word in every place that a call can write.
-    fn fill(&mut self, word: u32) {
-        self.starts.fill(word);
-        self.items.fill(word);
+    fn fill(&mut self, word: u32)
+        ensures { self.new ≡ filled self.old word }
+    {
+        self.cells.starts.fill(word);
+        self.cells.items.fill(word);
         self.list.fill(word);
         self.seen.fill(word);
         self.light.fill(of_bits(word));
@@ -85,15 +107,15 @@ impl Stored {
 
     // Up to 16 words of the table of this name from place `at` on: where cells begin, the numbers of
     // the points, the numbers near a point, which probes are seen, the light at the probes. None where
-    // a call writes no such table.
-    pub fn shown(&self, name: &[u8], at: usize) -> Words {
+    // a call writes no such table, or it has no such place.
+    pub fn shown(&self, name: &[u8], at: usize) -> Option<Words> {
         match name {
-            b"starts" => shown(&self.starts, at),
-            b"items" => shown(&self.items, at),
-            b"list" => shown(&self.list, at),
-            b"seen" => shown(&self.seen, at),
-            b"light" => shown(&self.light, at),
-            _ => Words::none(),
+            b"starts" => shown_at(&self.cells.starts, at),
+            b"items" => shown_at(&self.cells.items, at),
+            b"list" => shown_at(&self.list, at),
+            b"seen" => shown_at(&self.seen, at),
+            b"light" => shown_at(&self.light, at),
+            _ => None,
         }
     }
 }

@@ -1,4 +1,7 @@
+ghost use Rattle.std.specs.Prelude.{◌≡◌};
+
 // How many places of each table a call for placement is lent.
+// Kept: lengths beside the tables and not with each, since four are of tables that the scene holds.
 #[derive(Clone, Copy)]
 pub struct Lent {
     pub kinds: usize,
@@ -19,22 +22,43 @@ pub struct Lent {
 
 // The lengths are in the order of the fields.
 impl From<[u32; 16]> for Lent {
+    ghost use Rattle.stored_placement.specs.Lent.{lent_of};
+
+    ghost from_gives = { λ w l. l ≡ lent_of w };
+
     fn from(w: [u32; 16]) -> Lent {
+        let [
+            kinds,
+            lengths,
+            plane_parts,
+            object_parts,
+            materials,
+            p,
+            n,
+            albedo,
+            area,
+            direct,
+            irr,
+            rad,
+            head,
+            next,
+            ..
+        ] = w.map(|w| w as usize);
         Lent {
-            kinds: w[0] as usize,
-            lengths: w[1] as usize,
-            plane_parts: w[2] as usize,
-            object_parts: w[3] as usize,
-            materials: w[4] as usize,
-            p: w[5] as usize,
-            n: w[6] as usize,
-            albedo: w[7] as usize,
-            area: w[8] as usize,
-            direct: w[9] as usize,
-            irr: w[10] as usize,
-            rad: w[11] as usize,
-            head: w[12] as usize,
-            next: w[13] as usize,
+            kinds,
+            lengths,
+            plane_parts,
+            object_parts,
+            materials,
+            p,
+            n,
+            albedo,
+            area,
+            direct,
+            irr,
+            rad,
+            head,
+            next,
         }
     }
 }

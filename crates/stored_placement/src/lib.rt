@@ -2,6 +2,8 @@
 // it: materials, the columns of surfels, the scratch, and how much of each table is lent.
 #![tactic(auto)]
 
+ghost use Rattle.std.specs.Prelude.{◌≡◌};
+
 mod lending;
 
 use float::of_bits;
@@ -44,6 +46,11 @@ pub struct Scratch {
 }
 
 impl Stored {
+    ghost use Rattle.std.specs.Prelude.{codes, IsTrue};
+    ghost use Rattle.replay.specs.Words.{padded};
+    ghost use Rattle.stored_placement.specs.Lent.{lent_of};
+    ghost use Rattle.stored_placement.specs.Stores.{filled, floats_put};
+
     // Every place holds zero, and nothing is lent.
     pub fn nothing() -> Stored {
         Stored {
@@ -69,7 +76,12 @@ impl Stored {
 
     // Stores what the line says, and answers whether it says something: materials, from a place on;
     // how many places of each table are lent; one word for every place of a table, another for each.
-    pub fn store(&mut self, line: &Line<'_>) -> bool {
+    pub fn store(&mut self, line: &Line<'_>) -> bool
+        ensures put_materials { line.now.name.now ≡ codes "put_materials" → IsTrue result × (self.new ≡ record self.old { materials = floats_put self.old.materials line.now.given }) }
+        ensures lent { line.now.name.now ≡ codes "lent" → IsTrue result × (self.new ≡ record self.old { lent = lent_of (padded line.now.given) }) }
+        ensures fill { line.now.name.now ≡ codes "fill" → IsTrue result × (self.new ≡ filled self.old (padded line.now.given)) }
+        ensures nothing { ¬ IsTrue result → self.new ≡ self.old }
+    {
         match line.name {
             b"put_materials" => put(&mut self.materials, &line.given),
             b"lent" => self.lent = Lent::from(line.given.padded()),
@@ -81,7 +93,9 @@ impl Stored {
 
     // One word in every place of a table, another in each: p, n, albedo, area; direct, irr, rad; head,
     // next.
-    fn fill(&mut self, w: [u32; 16]) {
+    fn fill(&mut self, w: [u32; 16])
+        ensures { self.new ≡ filled self.old w }
+    {
         self.columns.p.fill(of_bits(w[0]));
         self.columns.n.fill(of_bits(w[1]));
         self.columns.albedo.fill(of_bits(w[2]));

@@ -1,4 +1,7 @@
+ghost use Rattle.std.specs.Prelude.{◌≡◌};
+
 // How much of each table a solve is lent.
+// Kept: lengths beside the tables and not with each, since one line gives all of them, in this order.
 #[derive(Clone, Copy)]
 pub struct Lent {
     pub albedo: usize,
@@ -18,21 +21,41 @@ pub struct Lent {
 
 // The lengths are in the order of the fields.
 impl From<[u32; 16]> for Lent {
+    ghost use Rattle.stored_room.specs.Lent.{lent_of};
+
+    ghost from_gives = { λ w l. l ≡ lent_of w };
+
     fn from(w: [u32; 16]) -> Lent {
+        let [
+            albedo,
+            area,
+            direct,
+            cluster_area,
+            first,
+            count,
+            member,
+            starts,
+            link_cluster,
+            link_weight,
+            irr,
+            rad,
+            scratch,
+            ..
+        ] = w.map(|w| w as usize);
         Lent {
-            albedo: w[0] as usize,
-            area: w[1] as usize,
-            direct: w[2] as usize,
-            cluster_area: w[3] as usize,
-            first: w[4] as usize,
-            count: w[5] as usize,
-            member: w[6] as usize,
-            starts: w[7] as usize,
-            link_cluster: w[8] as usize,
-            link_weight: w[9] as usize,
-            irr: w[10] as usize,
-            rad: w[11] as usize,
-            scratch: w[12] as usize,
+            albedo,
+            area,
+            direct,
+            cluster_area,
+            first,
+            count,
+            member,
+            starts,
+            link_cluster,
+            link_weight,
+            irr,
+            rad,
+            scratch,
         }
     }
 }

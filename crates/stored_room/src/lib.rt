@@ -4,11 +4,13 @@
 // has no place.
 #![tactic(auto)]
 
+ghost use Rattle.std.specs.Prelude.{◌≡◌};
+
 mod lent;
 
 use float::of_bits;
 pub use lent::Lent;
-use replay::{Line, Words, put, shown};
+use replay::{Line, Words, put, shown_at};
 
 // Places for 12 surfels, 8 clusters, 32 members, 16 starts and 64 links; `light` is what a reset is
 // given.
@@ -32,6 +34,8 @@ pub struct Stored {
 }
 
 impl Stored {
+    ghost use Rattle.stored_room.specs.Stores.{filled};
+
     // Every place holds zero, and nothing is lent.
     pub fn nothing() -> Stored {
         Stored {
@@ -80,7 +84,9 @@ impl Stored {
     }
 
     // One float in every place that a solve can write.
-    fn fill(&mut self, x: f32) {
+    fn fill(&mut self, x: f32)
+        ensures { self.new ≡ filled self.old x }
+    {
         self.irr.fill(x);
         self.rad.fill(x);
         self.scratch.fill(x);
@@ -88,14 +94,14 @@ impl Stored {
 
     // Up to 16 words of the table of this name from place `at` on: the surfels' irradiance, the light
     // that they give off, the scratch of a solve, their direct light. None where a call writes no such
-    // table.
-    pub fn shown(&self, name: &[u8], at: usize) -> Words {
+    // table, or it has no such place.
+    pub fn shown(&self, name: &[u8], at: usize) -> Option<Words> {
         match name {
-            b"irr" => shown(&self.irr, at),
-            b"rad" => shown(&self.rad, at),
-            b"scratch" => shown(&self.scratch, at),
-            b"direct" => shown(&self.direct, at),
-            _ => Words::none(),
+            b"irr" => shown_at(&self.irr, at),
+            b"rad" => shown_at(&self.rad, at),
+            b"scratch" => shown_at(&self.scratch, at),
+            b"direct" => shown_at(&self.direct, at),
+            _ => None,
         }
     }
 }

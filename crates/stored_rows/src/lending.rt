@@ -1,5 +1,9 @@
 // How much of each table the two calls are lent.
+ghost use Rattle.std.specs.Prelude.{◌≡◌};
+
 // How many places of each table a call for clusters is lent.
+// Kept: lengths beside the tables and not with each, since the two calls are lent the same tables as far
+// as each says for itself.
 #[derive(Clone, Copy)]
 pub struct ClustersLent {
     pub p: usize,
@@ -18,20 +22,39 @@ pub struct ClustersLent {
 
 // The lengths are in the order of the fields.
 impl From<[u32; 16]> for ClustersLent {
+    ghost use Rattle.stored_rows.specs.Lent.{clusters_lent_of};
+
+    ghost from_gives = { λ w l. l ≡ clusters_lent_of w };
+
     fn from(w: [u32; 16]) -> ClustersLent {
+        let [
+            p,
+            normals,
+            area,
+            cluster_p,
+            cluster_n,
+            cluster_area,
+            radius,
+            first,
+            count,
+            member,
+            order,
+            spare,
+            ..
+        ] = w.map(|w| w as usize);
         ClustersLent {
-            p: w[0] as usize,
-            normals: w[1] as usize,
-            area: w[2] as usize,
-            cluster_p: w[3] as usize,
-            cluster_n: w[4] as usize,
-            cluster_area: w[5] as usize,
-            radius: w[6] as usize,
-            first: w[7] as usize,
-            count: w[8] as usize,
-            member: w[9] as usize,
-            order: w[10] as usize,
-            spare: w[11] as usize,
+            p,
+            normals,
+            area,
+            cluster_p,
+            cluster_n,
+            cluster_area,
+            radius,
+            first,
+            count,
+            member,
+            order,
+            spare,
         }
     }
 }
@@ -54,19 +77,37 @@ pub struct RowsLent {
 
 // The lengths are in the order of the fields.
 impl From<[u32; 16]> for RowsLent {
+    ghost use Rattle.stored_rows.specs.Lent.{rows_lent_of};
+
+    ghost from_gives = { λ w l. l ≡ rows_lent_of w };
+
     fn from(w: [u32; 16]) -> RowsLent {
+        let [
+            p,
+            normals,
+            cluster_p,
+            cluster_n,
+            cluster_area,
+            radius,
+            starts,
+            link_cluster,
+            link_weight,
+            link,
+            weight,
+            ..
+        ] = w.map(|w| w as usize);
         RowsLent {
-            p: w[0] as usize,
-            normals: w[1] as usize,
-            cluster_p: w[2] as usize,
-            cluster_n: w[3] as usize,
-            cluster_area: w[4] as usize,
-            radius: w[5] as usize,
-            starts: w[6] as usize,
-            link_cluster: w[7] as usize,
-            link_weight: w[8] as usize,
-            link: w[9] as usize,
-            weight: w[10] as usize,
+            p,
+            normals,
+            cluster_p,
+            cluster_n,
+            cluster_area,
+            radius,
+            starts,
+            link_cluster,
+            link_weight,
+            link,
+            weight,
         }
     }
 }

@@ -1,4 +1,6 @@
 // What the two calls write.
+ghost use Rattle.std.specs.Prelude.{◌≡◌};
+
 use float::of_bits;
 
 // Clusters: their centres, normals, areas and radii. A call for clusters writes them, and a call for
@@ -12,8 +14,12 @@ pub struct Clusters {
 }
 
 impl Clusters {
+    ghost use Rattle.stored_rows.specs.Written.{clusters_of};
+
     // One word in every place.
-    pub fn filled(word: u32) -> Clusters {
+    pub fn filled(word: u32) -> Clusters
+        ensures { result ≡ clusters_of word }
+    {
         let x = of_bits(word);
         Clusters {
             p: [x; 96],
@@ -36,8 +42,12 @@ pub struct Members {
 }
 
 impl Members {
+    ghost use Rattle.stored_rows.specs.Written.{members_of};
+
     // One word in every place.
-    pub fn filled(word: u32) -> Members {
+    pub fn filled(word: u32) -> Members
+        ensures { result ≡ members_of word }
+    {
         Members {
             first: [word; 32],
             count: [word; 32],
@@ -59,8 +69,12 @@ pub struct Rows {
 }
 
 impl Rows {
+    ghost use Rattle.stored_rows.specs.Written.{rows_of};
+
     // One word in every place.
-    pub fn filled(word: u32) -> Rows {
+    pub fn filled(word: u32) -> Rows
+        ensures { result ≡ rows_of word }
+    {
         let x = of_bits(word);
         Rows {
             starts: [word; 36],

@@ -1,0 +1,2 @@
+-- The definitions that the contracts of `asked_grid` cite.
+pub mod Answers

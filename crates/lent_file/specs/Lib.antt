@@ -1,0 +1,2 @@
+-- The definitions that the contracts of `lent_file` cite.
+pub mod Lent

@@ -1,0 +1,3 @@
+-- The definitions that the contracts of `stored_rows` cite.
+pub mod Lent
+pub mod Written
