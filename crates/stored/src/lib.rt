@@ -22,6 +22,10 @@ pub struct Stored {
 }
 
 impl Stored {
+    ghost use Rattle.std.specs.Prelude.{codes, IsTrue, ◌↔◌};
+    ghost use Rattle.replay.specs.Words.{padded};
+    ghost use Rattle.stored.specs.Stores.{IsStored, with_counts, with_object, with_plane, with_prim};
+
     // Nothing is counted, and every place holds zeros.
     pub fn nothing() -> Stored {
         Stored {
@@ -38,7 +42,14 @@ impl Stored {
     // Stores the part of a scene that the line says, and answers whether it says one: the counts of
     // primitives, planes and objects; a primitive's number, its kind and its eight floats; the number
     // of a plane or an object, its base, first subtracted, how many, material.
-    pub fn store(&mut self, line: &Line<'_>) -> bool {
+    pub fn store(&mut self, line: &Line<'_>) -> bool
+        ensures counts { line.now.name.now ≡ codes "counts" → self.new ≡ with_counts self.old (padded line.now.given) }
+        ensures prim { line.now.name.now ≡ codes "prim" → self.new ≡ with_prim self.old (padded line.now.given) }
+        ensures plane { line.now.name.now ≡ codes "plane" → self.new ≡ with_plane self.old (padded line.now.given) }
+        ensures object { line.now.name.now ≡ codes "object" → self.new ≡ with_object self.old (padded line.now.given) }
+        ensures said { IsTrue result ↔ IsStored line.now.name.now }
+        ensures nothing { ¬ IsTrue result → self.new ≡ self.old }
+    {
         let w = line.given.padded();
         let number = w[0] as usize;
         match line.name {

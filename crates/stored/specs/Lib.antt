@@ -1,0 +1,2 @@
+-- The definitions that the contracts of `stored` cite.
+pub mod Stores
