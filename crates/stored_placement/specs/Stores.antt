@@ -5,7 +5,6 @@ use Rattle.std.specs.Float.Ieee.{of_bits}
 use Rattle.replay.specs.Words.{sets_from}
 use Rattle.stored_placement.specs.declared.Stored.{Stored}
 
-
 -- a table with what words say put into it: its floats, or its numbers
 abbrev pub floats_put : List Float → List ℕ → List Float
 floats_put table given = sets_from (map (of_bits binary32)) table given
