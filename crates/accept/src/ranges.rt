@@ -66,6 +66,8 @@ pub fn point(p: Vec3) -> bool
 }
 
 // Whether lo and hi serve as bounds: on each axis at most 10,000 in size, lo not above hi.
+// Kept: two corners and no box, here and in the types that have both beside a cell, a resolution or a target:
+// each is used by itself, and a box would be one name more at each use.
 pub fn bounds(lo: Vec3, hi: Vec3) -> bool
     ensures { result ≡ bounds lo hi }
 {
