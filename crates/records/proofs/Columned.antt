@@ -1,14 +1,16 @@
 -- The columns of records, what a reset leaves of them, and that columns tell their records. Assumes nothing.
-use mathlib.Core.Bool.{Bool, true, false, cond, ◌&&◌}
+use mathlib.Core.Bool.{Bool, true, false, cond, ◌&&◌, and-eq-true_iff, true≢false}
 use mathlib.Core.List.{List, [], ◌∷◌, ◌++◌, append-nil}
+use mathlib.Core.Logic.{inl, inr}
 use mathlib.Core.Path.{◌≡◌, refl, sym, ap, ◌∙◌}
 use Prim.Native.Nat.{ℕ, zero, suc, ◌+◌, ◌*◌, ◌<◌, ◌≤◌}
 use native.Mathlib.Omega.{arith}
-use borrow.Author.Tests.{lt-leb, leb-false}
-use lib.Dec.{leb}
+use borrow.Author.Tests.{lt-leb, leb-false, lt-ltb, ltb-true, eqb-true}
+use lib.Dec.{leb, ltb, eqb}
 use lib.Ieee.{Float}
 use lib.ListN.{length, set, drop, replicate, drop_of_length-le}
 use Rattle.float.specs.Arithmetic.{0f}
+use Rattle.float.proofs.Numbers.{here_or_on}
 use Rattle.vector.specs.declared.Vec3.{Vec3}
 use Rattle.vector.specs.Flat.{vec_at, components, rows, replaced, written, filled}
 use Rattle.vector.specs.Vector.{zero_vec}
@@ -18,7 +20,7 @@ use Rattle.std.specs.Prelude.{Result, Ok, Err}
 use Rattle.std.proofs.lemmas.List.{replicate-append-replicate}
 use Rattle.accept.specs.declared.refusal.Refusal.{Refusal}
 use Rattle.accept.specs.declared.refusal.Refusal.TheVariants.{Count}
-use Rattle.accept.specs.Refusal.{checked}
+use Rattle.accept.specs.Refusal.{checked, number_of, refusal_number}
 use Rattle.reset.specs.Resetting.{check, reset_answer}
 use Rattle.reset.proofs.Stored.{reset_lengths}
 use Rattle.records.specs.declared.Light.{Light}
@@ -112,6 +114,22 @@ set_more light i rs h = filled_put (light_at light) i rs refl h refl refl
 abbrev pub set_count : Result Unit Refusal → ℕ → ℕ
 set_count (Ok u) n = n
 set_count (Err refusal) n = 0
+
+-- going over them one by one, as long as none is refused, one more is set
+pub test_more : (answer : Result Unit Refusal) (n i : ℕ) → (ltb i n && eqb (refusal_number answer) 0) ≡ true → i < set_count answer n
+test_more (Ok u) n i e = ltb-true i n ((and-eq-true_iff (ltb i n) true).0 e).0
+test_more (Err refusal) n i e = absurd (above refusal (eqb-true (number_of refusal) 0 ((and-eq-true_iff (ltb i n) (eqb (number_of refusal) 0)).0 e).1))
+  where
+    above : (r : Refusal) → number_of r ≡ 0 → ⊥
+    above r h = absurd (grind arith)
+
+-- and where that ends, all are
+pub test_last : (answer : Result Unit Refusal) (n i : ℕ) → i ≤ set_count answer n → (ltb i n && eqb (refusal_number answer) 0) ≡ false → i ≡ set_count answer n
+test_last (Ok u) n i h e = elim (here_or_on i n) [
+  | inl l ↦ absurd (true≢false (sym (rw (lt-ltb i n l)) ∙ e))
+  | inr g ↦ omega arith
+]
+test_last (Err refusal) n i h e = omega arith
 
 module _ (light : List Float) (rs : List Light) where
   -- a reset of them that is refused leaves them
