@@ -84,6 +84,5 @@ pub fn vector_at(s: &[f32], i: usize) -> Vec3
     ensures { result ≡ vec_at s.now i }
 {
     let (vectors, _) = s.as_chunks::<3>();
-    let [x, y, z] = vectors[i];
-    Vec3 { x, y, z }
+    Vec3::from(vectors[i])
 }

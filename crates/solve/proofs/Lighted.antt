@@ -44,7 +44,7 @@ cluster_light_by cs power {n} listed held c h {from} {count} p q t r e f =
     let here : number_at l j ≡ number_at cs.member (first + j) =
     get_or-take m (drop from cs.member) j 0 few ∙ get_or-drop from cs.member j 0 ∙ ap (λ (i : ℕ). number_at cs.member (i + j)) p in
     let below = listed.below (first + j) (omega (arith, end, k)) in
-    ap (triple chunks) here ∙ triple_at (length power / 3) power (number_at cs.member (first + j)) (omega (arith, below, held))
+    ap (triple chunks) here ∙ triple_at power (number_at cs.member (first + j)) (omega (arith, below, held))
     in
     rw (f, e, r, t, long, fold_same plus zero_vec _ _ (number_at cs.count c) each)
 

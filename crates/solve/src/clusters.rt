@@ -7,7 +7,6 @@ ghost use Rattle.solve.specs.Held.{AllBelow, cluster_light_of, triple};
 
 use crate::bouncing::Bouncing;
 use crate::faint::over;
-use crate::triples::vector_of;
 use accept::wide;
 use vector::Vec3;
 
@@ -39,7 +38,7 @@ fn members_light(powers: &[[f32; 3]], members: &[u32]) -> Vec3
 {
     let mut sum = Vec3::zero();
     for &i in members {
-        sum = sum.plus(vector_of(powers[wide(i)]));
+        sum = sum.plus(Vec3::from(powers[wide(i)]));
     }
     sum
 }

@@ -12,7 +12,6 @@ mod power;
 mod rows;
 mod running;
 mod surfels;
-mod triples;
 
 pub use entries::solve;
 

@@ -5,7 +5,7 @@ ghost use Rattle.solve.specs.Bounce.{member_light};
 
 use crate::bouncing::Bouncing;
 use crate::faint::{any_faint, scaled};
-use crate::triples::vector_of;
+use vector::Vec3;
 
 impl Bouncing<'_> {
     // Every surfel's power, into `power`.
@@ -19,7 +19,7 @@ impl Bouncing<'_> {
         let faint = self.faint | any_faint(&rad[..3 * n]);
         let (rads, _) = rad.as_chunks::<3>();
         for i in 0..n {
-            vector::put(power, i, scaled(faint, vector_of(rads[i]), room.area[i]));
+            vector::put(power, i, scaled(faint, Vec3::from(rads[i]), room.area[i]));
         }
     }
 }

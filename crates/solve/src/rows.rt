@@ -7,7 +7,6 @@ ghost use Rattle.solve.specs.Held.{RowsLit, triple};
 
 use crate::bouncing::Bouncing;
 use crate::faint::any_faint;
-use crate::triples::vector_of;
 use accept::wide;
 use vector::Vec3;
 
@@ -137,6 +136,6 @@ impl LitRows<'_, '_> {
         requires { k < self.now.links }
         ensures { result ≡ link_light (rows_lit self.now) (triple self.now.light.now) k }
     {
-        vector_of(self.light[wide(self.cluster[k])]).scaled(self.weight[k])
+        Vec3::from(self.light[wide(self.cluster[k])]).scaled(self.weight[k])
     }
 }

@@ -5,7 +5,6 @@ ghost use Rattle.solve.specs.Bounce.{rad_of, step, greatest_step};
 
 use crate::bouncing::Bouncing;
 use crate::faint::{any_faint, times};
-use crate::triples::vector_of;
 use vector::Vec3;
 
 impl Bouncing<'_> {
@@ -26,9 +25,9 @@ impl Bouncing<'_> {
         let (albedos, _) = room.albedo.as_chunks::<3>();
         let mut change = 0.0;
         for i in 0..n {
-            let arriving = vector_of(irrs[i]);
-            let reflected = times(faint, vector_of(albedos[i]), arriving);
-            let new = vector_of(directs[i]).plus(reflected);
+            let arriving = Vec3::from(irrs[i]);
+            let reflected = times(faint, Vec3::from(albedos[i]), arriving);
+            let new = Vec3::from(directs[i]).plus(reflected);
             change = float::max(change, step(vector::at(rad, i), new));
             vector::put(rad, i, new);
         }

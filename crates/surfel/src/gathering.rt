@@ -1,7 +1,6 @@
 // The surfels near a probe, weighed one after the other.
 ghost use Rattle.std.specs.Prelude.{◌≡◌, ◌+◌, ◌*◌, ◌<◌, length};
 ghost use Rattle.std.specs.List.{All};
-ghost use Rattle.vector.specs.Flat.{vec_at};
 ghost use Rattle.surfel.specs.Gathering.{surfel_at, weigh_all, gather};
 ghost use Rattle.surfel.specs.Needs.{Named};
 
@@ -70,17 +69,9 @@ impl Gridded<'_> {
     {
         let place = wide(i);
         Surfel {
-            p: vec_of(self.p[place]),
-            n: vec_of(self.normals[place]),
-            irr: vec_of(self.irr[place]),
+            p: Vec3::from(self.p[place]),
+            n: Vec3::from(self.normals[place]),
+            irr: Vec3::from(self.irr[place]),
         }
     }
-}
-
-// The vector of three floats.
-fn vec_of(v: [f32; 3]) -> Vec3
-    ensures { result ≡ vec_at v 0 }
-{
-    let [x, y, z] = v;
-    Vec3 { x, y, z }
 }

@@ -5,6 +5,16 @@ ghost use Rattle.vector.specs.Flat.{vec_at, put_at};
 
 use crate::Vec3;
 
+impl From<[f32; 3]> for Vec3 {
+    ghost from_gives = { λ floats v. v ≡ vec_at floats 0 };
+
+    // The vector of three floats.
+    fn from(floats: [f32; 3]) -> Vec3 {
+        let [x, y, z] = floats;
+        Vec3 { x, y, z }
+    }
+}
+
 // The vector number i of s; each float of it that lies outside s is NaN.
 pub fn at(s: &[f32], i: usize) -> Vec3
     ensures { result ≡ vec_at s.now i }

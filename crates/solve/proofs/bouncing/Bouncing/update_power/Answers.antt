@@ -12,5 +12,5 @@ loop-i-init c = written_none _ _
 pub loop-i-preserved : goal.loop-i-preserved
 loop-i-preserved c =
     let i = c.loop-i.i in
-    let read : c.vector_of.result ≡ vec_at c.args.rad.now i = read_at c.args.rad.now c.as_chunks.ensures.front c.requires.rad_held (search rules) c.vector_of.ensures in
+    let read : c.from.result ≡ vec_at c.args.rad.now i = read_at c.args.rad.now c.as_chunks.ensures.front c.requires.rad_held (search rules) c.from.ensures in
     written_put _ i _ c.loop-i.invariant (search rules) (rw (← c.room.view_is, ← read) c.scaled.ensures) c.put.ensures

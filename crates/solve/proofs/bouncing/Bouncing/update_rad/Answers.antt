@@ -18,9 +18,9 @@ loop-i-preserved c =
     let held = c.args.self.now.held in
     let i = c.loop-i.i in
     let few : i < r.n = search rules in
-    let direct : c.vector_of-in-loop-i.result ≡ vec_at r.direct i = read_at r.direct (rw (← c.room.view_is) c.as_chunks-2.ensures.front) held.directs few c.vector_of-in-loop-i.ensures in
-    let albedo : c.vector_of.result ≡ vec_at r.albedo i = read_at r.albedo (rw (← c.room.view_is) c.as_chunks-3.ensures.front) held.albedos few c.vector_of.ensures in
-    let arriving : c.vector_of-arriving.result ≡ vec_at c.args.irr.now i = read_at c.args.irr.now c.as_chunks.ensures.front c.requires.irr_held few c.vector_of-arriving.ensures in
+    let direct : c.from-in-loop-i.result ≡ vec_at r.direct i = read_at r.direct (rw (← c.room.view_is) c.as_chunks-2.ensures.front) held.directs few c.from-in-loop-i.ensures in
+    let albedo : c.from.result ≡ vec_at r.albedo i = read_at r.albedo (rw (← c.room.view_is) c.as_chunks-3.ensures.front) held.albedos few c.from.ensures in
+    let arriving : c.from-arriving.result ≡ vec_at c.args.irr.now i = read_at c.args.irr.now c.as_chunks.ensures.front c.requires.irr_held few c.from-arriving.ensures in
     let new : c.plus-new.result ≡ rad_of r.direct r.albedo i (vec_at c.args.irr.now i) = rw (c.plus-new.ensures, c.times-reflected.ensures, direct, albedo, arriving) in (
       written_put _ i _ c.loop-i.invariant.0 (search rules) new c.put.ensures,
       steps_more _ _ i c.loop-i.invariant.1 (at_next _ i _ c.loop-i.invariant.0 c.at.ensures) new c.step.ensures c.max-change.ensures,

@@ -30,4 +30,4 @@ returns c =
     let h = named i c.self.view_is c.requires in
     let s = c.self.inside.surfels.now in
     let v = c.self.invariant in
-    rw (← c.self.view_is, cut_at s.p v.p_cut i h.p_in _ (rw c.wide-place.ensures at c.vec_of.ensures), cut_at s.normals v.normals_cut i h.normals_in _ (rw c.wide-place.ensures at c.vec_of-2.ensures), cut_at s.irr v.irr_cut i h.irr_in _ (rw c.wide-place.ensures at c.vec_of-3.ensures))
+    rw (← c.self.view_is, cut_at s.p v.p_cut i h.p_in _ (rw c.wide-place.ensures at c.from.ensures), cut_at s.normals v.normals_cut i h.normals_in _ (rw c.wide-place.ensures at c.from-2.ensures), cut_at s.irr v.irr_cut i h.irr_in _ (rw c.wide-place.ensures at c.from-3.ensures))
