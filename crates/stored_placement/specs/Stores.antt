@@ -5,12 +5,9 @@ use Rattle.std.specs.Float.Ieee.{of_bits}
 use Rattle.replay.specs.Words.{sets_from}
 use Rattle.stored_placement.specs.declared.Stored.{Stored}
 
--- a table with what words say put into it: its floats, or its numbers
+-- a table of floats with what words say put into it
 abbrev pub floats_put : List Float → List ℕ → List Float
 floats_put table given = sets_from (map (of_bits binary32)) table given
-
-abbrev pub numbers_put : List ℕ → List ℕ → List ℕ
-numbers_put table given = sets_from (map (λ w. w)) table given
 
 -- these tables with one word in every place of a table, another in each
 abbrev pub filled : Stored → List ℕ → Stored
