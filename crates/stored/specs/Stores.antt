@@ -1,5 +1,5 @@
 -- A scene stored line by line, for the programs that replay answers. Definitions only.
-use Rattle.std.specs.Prelude.{◌≡◌, ◌⊎◌, codes, ℕ, ◌*◌, List, [], slice_index, slice_range, map}
+use Rattle.std.specs.Prelude.{◌≡◌, ◌⊎◌, codes, ℕ, ◌*◌, List, slice_index, slice_range, map}
 use Rattle.std.proofs.lemmas.List.Edits.{sets}
 use Rattle.std.specs.Float.{binary32}
 use Rattle.std.specs.Float.Ieee.{of_bits}
