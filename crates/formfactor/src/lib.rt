@@ -21,7 +21,8 @@ pub use entries::build;
 use std::marker::Model;
 
 // The surfels that rows are made of, so many, by their places and normals: three floats each.
-// Kept: a count stands beside the slices, since C lends both and a slice may be longer or shorter.
+// Kept: a count stands beside the slices, since C lends both and a slice may be longer or shorter. Places
+// and normals stand in four types, each beside what else it has: one of the two would be a name more.
 #[derive(Drop)]
 pub struct Surfels<'a> {
     pub n: usize,

@@ -1,6 +1,7 @@
 ghost use Rattle.std.specs.Prelude.{◌≡◌};
 
 // How many places of each column are lent.
+// Kept: lengths beside the columns and not with each, since one line gives all of them, in this order.
 #[derive(Clone, Copy)]
 pub struct Lent {
     pub p: usize,
