@@ -81,8 +81,10 @@ impl Blocks<'_> {
 
     // The column that stands there, none where it does not lie in the file.
     fn found(&self, place: Column) -> Option<Lying<'_>>
-        ensures numbers { option_map (λ l. numbers_of l.bytes.now l.place) result ≡ cond (Columns·inside self.now.bytes.now place) (Some (numbers_of self.now.bytes.now place)) None }
-        ensures floats { option_map (λ l. floats_of l.bytes.now l.place) result ≡ cond (Columns·inside self.now.bytes.now place) (Some (floats_of self.now.bytes.now place)) None }
+        ensures numbers { option_map (λ l. numbers_of l.bytes.now l.place) result
+            ≡ cond (Columns·inside self.now.bytes.now place) (Some (numbers_of self.now.bytes.now place)) None }
+        ensures floats { option_map (λ l. floats_of l.bytes.now l.place) result
+            ≡ cond (Columns·inside self.now.bytes.now place) (Some (floats_of self.now.bytes.now place)) None }
     {
         if self.has(place) {
             Some(Lying {

@@ -77,7 +77,8 @@ impl Stored {
     // Stores what the line says, and answers whether it says something: materials, from a place on;
     // how many places of each table are lent; one word for every place of a table, another for each.
     pub fn store(&mut self, line: &Line<'_>) -> bool
-        ensures put_materials { line.now.name.now ≡ codes "put_materials" → IsTrue result × (self.new ≡ record self.old { materials = floats_put self.old.materials line.now.given }) }
+        ensures put_materials { line.now.name.now ≡ codes "put_materials"
+            → IsTrue result × (self.new ≡ record self.old { materials = floats_put self.old.materials line.now.given }) }
         ensures lent { line.now.name.now ≡ codes "lent" → IsTrue result × (self.new ≡ record self.old { lent = lent_of (padded line.now.given) }) }
         ensures fill { line.now.name.now ≡ codes "fill" → IsTrue result × (self.new ≡ filled self.old (padded line.now.given)) }
         ensures nothing { ¬ IsTrue result → self.new ≡ self.old }
