@@ -1,16 +1,10 @@
 //! The crates that crates.txt lists.
 use std::collections::BTreeSet;
 
-/// A crate of the list, and those of the list that it depends on.
-pub struct Listed<'a> {
-    pub name: &'a str,
-    pub needs: Vec<&'a str>,
-}
-
 /// A crate and all beneath it, by lines of `NAME: what it depends on  # comment`, where a static
 /// library has the word staticlib after its name, leaves first: in the order of the list, so that the crate
 /// itself is the last.
-pub fn beneath<'a>(name: &'a str, text: &'a str) -> Vec<Listed<'a>> {
+pub fn beneath<'a>(name: &'a str, text: &'a str) -> Vec<&'a str> {
     let mut wanted = BTreeSet::from([name]);
     let mut crates = Vec::new();
     for line in text.lines().rev() {
@@ -19,16 +13,11 @@ pub fn beneath<'a>(name: &'a str, text: &'a str) -> Vec<Listed<'a>> {
             continue;
         };
         let name = name.split_whitespace().next().unwrap_or_default();
-        let needs: Vec<&str> = needs.split_whitespace().collect();
         if wanted.contains(name) {
-            wanted.extend(&needs);
-            crates.push(Listed { name, needs });
+            wanted.extend(needs.split_whitespace());
+            crates.push(name);
         }
     }
     crates.reverse();
-    let names: BTreeSet<&str> = crates.iter().map(|one| one.name).collect();
-    for one in &mut crates {
-        one.needs.retain(|name| names.contains(name));
-    }
     crates
 }

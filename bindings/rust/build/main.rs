@@ -3,8 +3,8 @@
 //! Where the environment variable SOKITAHE_LIB_DIR names a folder, the library is taken from there.
 //! Otherwise it is the one in crates/interflect/out of the repository two folders above this one, which
 //! is built with `rt` where it is missing or older than a file of a crate beneath it.
+mod jobs;
 mod listed;
-mod proving;
 mod rt;
 mod sources;
 
@@ -70,42 +70,47 @@ fn lib_dir(folder: PathBuf) -> Result<PathBuf, String> {
 /// The folder of the library that rt builds in the repository.
 fn built_by_rt() -> Result<PathBuf, String> {
     let root = repository()?;
-    let list = root.join("crates.txt");
-    let text = fs::read_to_string(&list)
-        .map_err(|error| format!("{} can't be read: {error}", list.display()))?;
-    let crates = listed::beneath(EXPORTS, &text);
     let exports = root.join("crates").join(EXPORTS);
     let folder = exports.join("out");
     let library = folder.join(LIBRARY);
-    let parts = |one: &listed::Listed| {
-        let folder = root.join("crates").join(one.name);
-        PARTS.map(|part| folder.join(part))
-    };
-    let files: Vec<PathBuf> = crates
-        .iter()
-        .flat_map(parts)
-        .filter(|path| path.exists())
-        .chain([list])
-        .collect();
+    let files = sources_of(&root)?;
     for path in files.iter().chain([&library]) {
         println!("cargo:rerun-if-changed={}", path.display());
     }
-    if sources::up_to_date(&library, &files) {
-        return Ok(folder);
+    if !sources::up_to_date(&library, &files) {
+        build(&exports, &library)?;
     }
+    Ok(folder)
+}
+
+/// The list of crates, and the parts of those that the library is made of.
+fn sources_of(root: &Path) -> Result<Vec<PathBuf>, String> {
+    let list = root.join("crates.txt");
+    let text = fs::read_to_string(&list)
+        .map_err(|error| format!("{} can't be read: {error}", list.display()))?;
+    let crates = listed::beneath(EXPORTS, &text).into_iter();
+    let parts = crates.flat_map(|name| PARTS.map(|part| root.join("crates").join(name).join(part)));
+    Ok(parts.filter(|path| path.exists()).chain([list]).collect())
+}
+
+/// Proves the crates that the library is made of, several at a time, and builds it.
+fn build(exports: &Path, library: &Path) -> Result<(), String> {
     let begun = SystemTime::now();
     let rt = Rt::found(&format!("or set {LIB_DIR} to a folder with {LIBRARY}"))?;
     let work = PathBuf::from(env::var_os("OUT_DIR").unwrap_or_default());
-    let beneath = crates.split_last().map_or(&[][..], |(_, beneath)| beneath);
-    proving::prove(&rt, &root, beneath, &work)?;
-    rt.run(&exports, &["lib"], &work.join("rt.log"))?;
-    date(&library, begun).map_err(|error| {
+    let jobs = jobs::words();
+    let prove: Vec<&str> = ["all", "check"]
+        .into_iter()
+        .chain(jobs.iter().map(String::as_str))
+        .collect();
+    rt.run(exports, &prove, &work.join("check.log"))?;
+    rt.run(exports, &["lib"], &work.join("lib.log"))?;
+    date(library, begun).map_err(|error| {
         format!(
             "rt wrote no {} that can be used ({error}): see whether this rt is the repository's",
             library.display()
         )
-    })?;
-    Ok(folder)
+    })
 }
 
 /// The repository's root, two folders above the manifest.

@@ -1,4 +1,4 @@
-//! The files that a library is made of: whether one has changed since, and how long they are.
+//! The files that a library is made of: whether one has changed since.
 use std::fs;
 use std::path::{Path, PathBuf};
 use std::time::SystemTime;
@@ -18,14 +18,6 @@ fn unchanged(path: &Path, then: SystemTime) -> bool {
     older
         && (data.is_file()
             || entries(path).is_some_and(|paths| paths.iter().all(|path| unchanged(path, then))))
-}
-
-/// How many bytes the files of a folder have.
-pub fn length(path: &Path) -> u64 {
-    match entries(path) {
-        Some(paths) => paths.iter().map(|path| length(path)).sum(),
-        None => fs::metadata(path).map_or(0, |data| data.len()),
-    }
 }
 
 /// What a folder has; none where it is no folder that can be read.

@@ -2,7 +2,6 @@
 ghost use Rattle.std.specs.Prelude.{◌≡◌};
 ghost use Rattle.outs.specs.Outs.{left};
 
-use crate::telling::tell;
 use accept::Refusal;
 
 // The number that an entry was refused with, or 0 with how many it made written through a reference:
@@ -10,5 +9,11 @@ use accept::Refusal;
 pub fn tell_count(answer: Result<usize, Refusal>, count: &mut usize) -> u32
     ensures { (result, count.new) ≡ left answer count.old }
 {
-    tell(answer, &mut |made| *count = made)
+    match answer {
+        Ok(made) => {
+            *count = made;
+            0
+        }
+        Err(refusal) => u32::from(refusal),
+    }
 }

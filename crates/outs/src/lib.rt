@@ -11,7 +11,6 @@ mod rows;
 mod scenes;
 mod solves;
 mod surfels;
-mod telling;
 
 pub use counts::tell_count;
 pub use reading::tell_head;

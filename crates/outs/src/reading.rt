@@ -2,7 +2,6 @@
 ghost use Rattle.std.specs.Prelude.{◌≡◌};
 ghost use Rattle.outs.specs.Reading.{read_left};
 
-use crate::telling::tell;
 use accept::Refusal;
 use room::Head;
 
@@ -15,25 +14,28 @@ pub fn tell_head(
 ) -> u32
     ensures { (result, counts.new, sizes.new) ≡ read_left answer counts.old sizes.old }
 {
-    let mut write = |head: Head| {
-        *counts = [
-            head.counts.surfels as usize,
-            head.counts.clusters as usize,
-            head.counts.members as usize,
-            head.counts.links as usize,
-            head.counts.probes as usize,
-            head.counts.limit as usize,
-        ];
-        *sizes = [
-            head.bounds.lo.x,
-            head.bounds.lo.y,
-            head.bounds.lo.z,
-            head.bounds.hi.x,
-            head.bounds.hi.y,
-            head.bounds.hi.z,
-            head.bounds.cell,
-            head.bounds.radius,
-        ];
-    };
-    tell(answer, &mut write)
+    match answer {
+        Ok(head) => {
+            *counts = [
+                head.counts.surfels as usize,
+                head.counts.clusters as usize,
+                head.counts.members as usize,
+                head.counts.links as usize,
+                head.counts.probes as usize,
+                head.counts.limit as usize,
+            ];
+            *sizes = [
+                head.bounds.lo.x,
+                head.bounds.lo.y,
+                head.bounds.lo.z,
+                head.bounds.hi.x,
+                head.bounds.hi.y,
+                head.bounds.hi.z,
+                head.bounds.cell,
+                head.bounds.radius,
+            ];
+            0
+        }
+        Err(refusal) => u32::from(refusal),
+    }
 }

@@ -3,7 +3,6 @@ ghost use Rattle.std.specs.Prelude.{◌≡◌};
 ghost use Rattle.outs.specs.Outs.{clustered_outs, build_outs, left};
 ghost use Rattle.outs.specs.Rows.{build_left};
 
-use crate::telling::tell;
 use accept::Refusal;
 use clusters::Clustered;
 use formfactor::{BuildError, Built};
@@ -16,11 +15,14 @@ pub fn tell_clustered(
 ) -> u32
     ensures { (result, (clustered_outs made listed).exit) ≡ left answer (clustered_outs made listed).entry }
 {
-    let mut write = |c: Clustered| {
-        *made = c.clusters;
-        *listed = c.members;
-    };
-    tell(answer, &mut write)
+    match answer {
+        Ok(c) => {
+            *made = c.clusters;
+            *listed = c.members;
+            0
+        }
+        Err(refusal) => u32::from(refusal),
+    }
 }
 
 // The number that rows were refused with, 8 with the row that did not fit, or 0 with what was built,

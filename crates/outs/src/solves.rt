@@ -2,7 +2,6 @@
 ghost use Rattle.std.specs.Prelude.{◌≡◌};
 ghost use Rattle.outs.specs.Outs.{left, stats_outs};
 
-use crate::telling::tell;
 use accept::Refusal;
 use solve::SolveStats;
 
@@ -14,9 +13,12 @@ pub fn tell_solved(
 ) -> u32
     ensures { (result, (stats_outs bounces change).exit) ≡ left answer (stats_outs bounces change).entry }
 {
-    let mut write = |made: SolveStats| {
-        *bounces = made.bounces;
-        *change = made.change;
-    };
-    tell(answer, &mut write)
+    match answer {
+        Ok(made) => {
+            *bounces = made.bounces;
+            *change = made.change;
+            0
+        }
+        Err(refusal) => u32::from(refusal),
+    }
 }

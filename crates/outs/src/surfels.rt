@@ -3,7 +3,6 @@ ghost use Rattle.std.specs.Prelude.{◌≡◌};
 ghost use Rattle.outs.specs.Outs.{dims_outs, reading_outs, left};
 ghost use Rattle.outs.specs.Surfels.{gather_left};
 
-use crate::telling::tell;
 use accept::Refusal;
 use grid::Dims;
 use surfel::Reading;
@@ -17,12 +16,15 @@ pub fn tell_dims(
 ) -> u32
     ensures { (result, (dims_outs dx dy dz).exit) ≡ left answer (dims_outs dx dy dz).entry }
 {
-    let mut write = |dim: Dims| {
-        *dx = dim.x;
-        *dy = dim.y;
-        *dz = dim.z;
-    };
-    tell(answer, &mut write)
+    match answer {
+        Ok(dim) => {
+            *dx = dim.x;
+            *dy = dim.y;
+            *dz = dim.z;
+            0
+        }
+        Err(refusal) => u32::from(refusal),
+    }
 }
 
 // The number that a reading was refused with, or 0 with the reading written through references.
@@ -36,19 +38,21 @@ pub fn tell_reading(
 ) -> u32
     ensures { (result, (reading_outs seen x y z).exit) ≡ gather_left answer (reading_outs seen x y z).entry }
 {
-    let mut write = |reading: Reading| match reading {
-        Reading::Seen(light) => {
+    match answer {
+        Ok(Reading::Seen(light)) => {
             *seen = 1;
             *x = light.x;
             *y = light.y;
             *z = light.z;
+            0
         }
-        Reading::Unseen => {
+        Ok(Reading::Unseen) => {
             *seen = 0;
             *x = 0.0;
             *y = 0.0;
             *z = 0.0;
+            0
         }
-    };
-    tell(answer, &mut write)
+        Err(refusal) => u32::from(refusal),
+    }
 }
