@@ -2,8 +2,8 @@
  * Bounced light in a room: the C interface of libinterflect.a, for C99 and C++.
  *
  * `rt lib` in crates/interflect writes crates/interflect/out/libinterflect.a, for
- * x86-64 Linux; of other libraries it needs memcpy and memset alone. The functions beneath are its seventeen
- * entries, and three float functions.
+ * x86-64 Linux; of other libraries it needs memcpy, memmove and memset alone. The functions beneath are its
+ * seventeen entries, and three float functions.
  *
  * Slices. A slice is a pointer and behind it its length, `p` and `p_len`, counted in elements of the
  * pointer's type: floats, numbers, bytes or records. Vectors stand flat in a slice, x y z one after
@@ -28,6 +28,27 @@
  *
  * Ranges include both ends. 'Out of range' of a float includes NaN and the infinities. A coordinate is
  * from -10,000 to 10,000; points and normals are three of them.
+ *
+ * Order of calls, from the shapes of a room to its light:
+ *   1. the tables of the scene (Scenes, beneath)
+ *   2. interflect_generate: surfels in a box
+ *   3. for each surfel the light that it gives off of the lamps', which is yours to find: its albedo times
+ *      the irradiance from the lamps; interflect_soft_shadow says how much of a lamp is seen
+ *   4. interflect_reset: that light becomes direct and rad, of the count surfels that were placed
+ *   5. interflect_build_clusters: made clusters, and listed members
+ *   6. interflect_build: the rows, over the surfels' p and n and the clusters' four columns
+ *   7. interflect_solve: nc is made, members is listed, and member is the slice members of 5
+ *   8. interflect_grid_build over the surfels' p, and interflect_gather_all: the readings of irr
+ * One box serves 2, 5, 6 and 8. In all, a surface receives the irradiance from the lamps and irr.
+ *
+ * Units. Lengths are metres: some are fixed, as a step of a shadow ray, which is 0.006 to 0.12. Light is in
+ * any unit of which 0.0001 is next to nothing, as lux: a solve ends at a change under 0.0001.
+ *
+ * What is accepted and gives wrong light all the same: a plane's normal, a ray's direction or a surfel's
+ * normal that is not of length 1 (what is then called a distance is none, and a ray may pass into a
+ * surface); light to reset that was not multiplied by the albedo; a cell smaller than the radius of the
+ * readings (surfels within the radius are left out); a room left without walls (planes are endless, so that
+ * a floor and a ceiling alone pass for a closed room).
  */
 #ifndef INTERFLECT_H
 #define INTERFLECT_H
@@ -85,8 +106,9 @@ struct interflect_light {
  *   object_parts            4 objects numbers: the same of each object
  *
  *   0 sphere       centre, radius
- *   1 rounded box  centre, half-sizes with the rounding in them, radius of the edges
- *   2 plane        normal n, height h: a point p is at dot(p, n) - h
+ *   1 rounded box  centre, half-sizes with the rounding in them, radius of the edges, at most the least
+ *                  half-size
+ *   2 plane        normal n, of length 1, height h: a point p is at dot(p, n) - h
  *   3 capsule      the two ends of the axis, radius
  *   4 torus        centre, radius of the ring, which lies flat in x and z, radius of the tube
  *   5 cylinder     the centres of the two caps, radius
@@ -129,7 +151,7 @@ uint32_t interflect_normal(
     float *nx, float *ny, float *nz);
 
 /* What the ray from ro along rd meets between tmin and tmax, in at most 128 steps; rd, tmin and tmax may
- * be any floats. The first sample is at tmin, whatever tmax is.
+ * be any floats, and are lengths where rd is of length 1. The first sample is at tmin, whatever tmax is.
  * Outs: hit becomes 1, and then t (how far along rd), px py pz (the point), nx ny nz (the normal there)
  * and mat are written; or hit becomes 0, and those stay as they were. evals becomes how many distances
  * were evaluated, at most 132.
@@ -149,7 +171,9 @@ uint32_t interflect_trace(
     uint32_t *mat, uint32_t *evals);
 
 /* How much of a light along rd is seen from ro between tmin and tmax; the larger k, the harder the
- * shadow's edge. rd, tmin, tmax and k may be any floats.
+ * shadow's edge (distance over the lamp's radius, 1.5 to 96, suits a lamp). rd, tmin, tmax and k may be any
+ * floats; a NaN among them may give 1. Let rd be of length 1, begin above 0, off the surface that ro lies
+ * on, which else hides all, and end short of the surface that the lamp hangs on, which else darkens it.
  * Outs: visibility, 0 to 1; evals, how many distances were evaluated, at most 96.
  * Refuses 2 4 5 6. 5 also: ro no point. */
 uint32_t interflect_soft_shadow(
@@ -185,11 +209,12 @@ uint32_t interflect_hemisphere_closure(
 /* Places at most target surfels on the surface of a scene, within the box from lo to hi.
  * Needs: materials, 4 mats floats: albedo (three) and metallic of each. A material that is not below mats
  * has albedo 0.8 and metallic 0.
- * Writes: of each surfel placed p, n (its normal), albedo (its material's times 1 - metallic), area, and zeros
- * as direct, irr and rad. Each slice needs target vectors, area target floats. Places from the count on keep
- * what they held.
+ * Writes: of each surfel placed p, n (its normal), albedo (its material's times 1 - metallic), area (for each
+ * d d / 0.65, with d as beneath: areas need not sum to the surface's), and zeros as direct, irr and rad.
+ * Each slice needs target vectors, area target floats. Places from the count on keep what they held.
  * Scratch: next, target numbers; head, a number for each cell of side d, the least distance of two
- * surfels. In float steps, with e = hi - lo: d = fmaxf(root(ex ex + ey ey + ez ez) / root(target), 0.0001f),
+ * surfels. In float steps, none of them fused (-ffp-contract=off), with e = hi - lo:
+ * d = fmaxf(root(ex ex + ey ey + ez ez) / root(target), 0.0001f),
  * head_len = count(ex (1 / d)) count(ey (1 / d)) count(ez (1 / d)); root is interflect_sqrt, count is
  * interflect_cell_count.
  * Outs: count, how many surfels were placed; often fewer than target.
@@ -224,7 +249,9 @@ uint32_t interflect_generate(
  * Each axis has count(extent (1 / cell)) cells, in float steps, where count is interflect_cell_count;
  * cells are numbered with x fastest, then y. starts needs a number for each cell, where its points begin
  * in items, and one more, for the end; items needs n point numbers. A grid that interflect_grid_build
- * wrote is never refused with 7.
+ * wrote is never refused with 7. For readings take a cell of their radius: the cells within one of a point's
+ * own are visited, so that with a smaller cell surfels within the radius are left out. A radius of two or
+ * three times the least distance of the surfels mostly covers a surface.
  *
  * A function on a grid refuses with
  *   2  n over 400,000
@@ -267,7 +294,10 @@ uint32_t interflect_near(
     size_t *count);
 
 /* The indirect irradiance at a point with a normal, read from the surfels within radius in the cells
- * within one of the point's cell. A point that they do not cover is unseen, which is not dark.
+ * within one of the point's cell. With c the dot product of its normal and the reading's, a surfel weighs
+ * (1 - distance^2 / radius^2)^2 c where c is over 0.15, else nothing. Where the weights sum to at most
+ * 0.000001 the point is unseen, which is not dark. A point in the air is seen within the radius of such
+ * surfels.
  * Needs: p, normals, irr: n vectors each. irr may be any floats.
  * Outs: seen becomes 1 and x y z the indirect irradiance, or seen becomes 0 and x y z zero: ask seen first.
  * Refuses 2 3 4 5 7. 3 also: the radius. 4 also: p, normals or irr too short. 5: a point or normal of
@@ -347,6 +377,9 @@ uint32_t interflect_build_clusters(
     size_t *made, size_t *listed);
 
 /* Builds the transfer rows of n surfels over nc clusters: which clusters light a surfel, and by how much.
+ * A weight is the cluster's form factor times what is seen of it. A row whose sum is over 0.00001 is scaled,
+ * by at most 8, to sum to the part of 16 directions that meets something. The diagonal of the box says how
+ * far off the surfel rays begin and how far they go: take the box of the placement.
  * The rows of some of the surfels, built by themselves with the same scene, box and clusters, are those
  * rows of the whole: parts may be built on several threads.
  * Needs: p, normals (n vectors each); cluster_p, cluster_n (nc vectors each), cluster_area, cluster_radius
@@ -397,7 +430,8 @@ uint32_t interflect_build(
  * bounces go on from the rad that is lent. scratch, nc vectors: the clusters' light of the last bounce.
  * Without clusters, or with a limit of 0, no bounce is made and all three stay as they were.
  * Outs: bounces, how many were made; change, the greatest step of any channel of rad in the last of them,
- * 0 if there was none. The light has settled if bounces is above 0 and change under 0.0001.
+ * 0 if there was none. The light has settled if bounces is above 0 and change under 0.0001; a white room
+ * in lux mostly takes more than 12 bounces to.
  * Refuses 2 4 5 7. 2: n or members over 400,000, nc over 65,536, links over 16,777,216, limit over 4,096.
  * 4: a slice too short. 5: an albedo outside 0 to 1, an area or direct light outside 0 to 1,000,000,
  * a cluster's area outside 0 to 1e12, a weight outside 0 to 2 (irr and rad may be any floats).
@@ -422,7 +456,7 @@ uint32_t interflect_solve(
     size_t *bounces, float *change);
 
 /* Sets the light of surfels before the first bounce: direct and rad become light, irr zero.
- * Needs: light, three floats a surfel.
+ * Needs: light, three floats a surfel: what it gives off of the lamps' light, albedo times irradiance.
  * Writes: direct, irr, rad, all of the length of light.
  * Refuses 2 4 5. 2: one of the four over 1,200,000 floats. 4: the four not of one length, or of one that
  * is no multiple of three. 5: a float of light outside 0 to 1,000,000. */

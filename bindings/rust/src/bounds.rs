@@ -4,7 +4,7 @@ use crate::lent;
 /// Three floats: x, y, z. Lengths are in metres.
 pub type Vec3 = [f32; 3];
 
-/// A box from its lowest corner to its highest.
+/// A box from its lowest corner to its highest. One box serves a room's surfels, clusters, rows and grid.
 ///
 /// The entries that take one refuse it with 3 where `lo` is above `hi` on an axis, where a component
 /// is beyond ±10,000, or where one is NaN.
@@ -23,8 +23,16 @@ impl Bounds {
         [hi[0] - lo[0], hi[1] - lo[1], hi[2] - lo[2]]
     }
 
-    /// How many cells of this side the box takes, 1 to 512 on each axis.
-    pub(crate) fn cells(&self, side: f32) -> usize {
+    /// How many cells of this side the box takes in all, 1 to 512 on each axis: the product of
+    /// [`lent::cell_count`] of extent × (1 / side).
+    ///
+    /// A grid over the box needs so many starts and one more.
+    ///
+    /// ```
+    /// let bounds = sokitahe::Bounds { lo: [0.0; 3], hi: [4.0, 2.5, 1.0] };
+    /// assert_eq!(bounds.cells(1.0), 4 * 3);
+    /// ```
+    pub fn cells(&self, side: f32) -> usize {
         let per_metre = 1.0 / side;
         self.extent()
             .iter()
@@ -32,8 +40,17 @@ impl Bounds {
             .product()
     }
 
-    /// The least distance between two of so many surfels placed in the box.
-    pub(crate) fn spacing(&self, target: usize) -> f32 {
+    /// The least distance d between two of so many surfels placed in the box: its diagonal by the root of
+    /// the target, at least 0.0001. Each stands for an area of d² / 0.65.
+    ///
+    /// Placement needs `bounds.cells(bounds.spacing(target))` numbers of scratch in `head`. A reading with
+    /// a radius of two or three times d is mostly seen all over a surface.
+    ///
+    /// ```
+    /// let bounds = sokitahe::Bounds { lo: [0.0; 3], hi: [3.0, 4.0, 12.0] };
+    /// assert_eq!(bounds.spacing(169), 1.0);
+    /// ```
+    pub fn spacing(&self, target: usize) -> f32 {
         let [x, y, z] = self.extent();
         let diagonal = lent::sqrt(x * x + y * y + z * z);
         (diagonal / lent::sqrt(target as f32)).max(1e-4)

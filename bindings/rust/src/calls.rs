@@ -70,12 +70,13 @@ pub fn sqrt(x: f32) -> f32 {
     call!(interflect_sqrt: value x,)
 }
 
-/// The number of the cell, from 0 to `dim` − 1, that holds the coordinate `x`, counted in cells.
+/// The number of the cell, from 0 to `dim` − 1, that holds the coordinate `x`, counted in cells: the
+/// fraction is dropped, outside counts for the nearest cell, NaN for cell 0. With a `dim` of 0 it is 0.
 pub fn cell(x: f32, dim: usize) -> usize {
     call!(interflect_cell: value x, value dim,)
 }
 
-/// How many cells an extent of `x` cells takes, from 1 to 512.
+/// How many cells an extent of `x` cells takes: `x` rounded up, from 1 to 512; 1 for NaN.
 pub fn cell_count(x: f32) -> usize {
     call!(interflect_cell_count: value x,)
 }

@@ -14,7 +14,7 @@ use crate::surfels::Surfels;
 /// ```
 /// use sokitahe::{Grid, Reading, RoomFile};
 ///
-/// let bytes = std::fs::read("../../rooms/clinic.room")?;
+/// let bytes = std::fs::read("../../rooms/clinic.room")?; // a room of the repository
 /// let mut file = RoomFile::read(&bytes)?;
 /// assert!(file.room.solve(file.limit)?.settled());
 /// let grid = Grid::build(&file.room.surfels.p, file.bounds, file.cell)?;

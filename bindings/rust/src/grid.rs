@@ -21,7 +21,7 @@ pub struct Probe {
 pub enum Reading {
     /// Surfels cover the point: their indirect irradiance, weighed.
     Seen(Vec3),
-    /// The weights of the surfels about the point do not exceed 0.000001.
+    /// The weights of the surfels about the point (see [`lent::gather`]) do not exceed 0.000001.
     Unseen,
 }
 
@@ -38,7 +38,7 @@ impl Reading {
 /// The points of surfels in the cells of a box.
 ///
 /// A reading visits the cells within one of the point's own, whatever its radius is: take a cell that
-/// is no smaller than the radius.
+/// is no smaller than the radius, since surfels beyond those cells are left out.
 ///
 /// ```
 /// use sokitahe::{Bounds, Grid};

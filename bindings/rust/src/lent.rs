@@ -1,10 +1,11 @@
 //! The seventeen entries over slices that the host lends, and the three float functions beside them.
 //!
-//! Each function is named like its entry and takes the same arguments in the same order; arguments
-//! that belong together are a struct of slices. Vectors in slices are flat, three floats each, and
-//! counts are explicit: a slice may be longer than its need, and places past the need keep what they
-//! held. Nothing is checked in Rust. What is wrong, a count, a length or a number, the entry refuses,
-//! and a refused call has written nothing (but for number 8 of [`build`]).
+//! Each function is named like its entry and takes the same arguments in the same order (but for the
+//! limit of [`solve`], which follows the room); arguments that belong together are a struct of slices.
+//! Vectors in slices are flat, three floats each, and counts are explicit: a slice may be longer than its
+//! need, and places past the need keep what they held. Nothing is checked in Rust. What is wrong, a count,
+//! a length or a number, the entry refuses, and a refused call has written nothing (but for number 8 of
+//! [`build`]).
 //!
 //! The types at the crate's root own their columns and call these functions; use this layer where the
 //! columns are yours.
@@ -15,9 +16,9 @@
 //! // Four points of a box of 4 × 1 × 1 m in cells of 1 m.
 //! let p = [3.5, 0.5, 0.5, 0.5, 0.5, 0.5, 0.5, 0.5, 0.5, 1.5, 0.5, 0.5];
 //! let bounds = Bounds { lo: [0.0; 3], hi: [4.0, 1.0, 1.0] };
-//! let (mut starts, mut items) = ([0; 5], [0; 4]);
+//! let (mut starts, mut items) = (vec![0; bounds.cells(1.0) + 1], [0; 4]);
 //! let dims = lent::grid_build(4, &p, bounds, 1.0, &mut starts, &mut items)?;
-//! assert_eq!((dims, starts, items), ([4, 1, 1], [0, 2, 3, 3, 4], [1, 2, 3, 0]));
+//! assert_eq!((dims, &starts[..], items), ([4, 1, 1], &[0, 2, 3, 3, 4][..], [1, 2, 3, 0]));
 //!
 //! // One place less for the starts: refused with 4.
 //! let refused = lent::grid_build(4, &p, bounds, 1.0, &mut starts[..4], &mut items).unwrap_err();
@@ -222,7 +223,7 @@ pub struct RoomColumns<'a> {
 #[derive(Clone, Copy, Debug, Default, PartialEq)]
 #[repr(C)]
 pub struct Light {
-    /// What it gives off of the lamps' light.
+    /// What it gives off of the lamps' light: albedo × irradiance.
     pub direct: Vec3,
     /// The indirect irradiance: what reaches it after at least one bounce.
     pub irr: Vec3,

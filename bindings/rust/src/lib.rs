@@ -50,11 +50,24 @@
 //! # Ok::<(), sokitahe::Refused>(())
 //! ```
 //!
+//! # Light, lengths and what is not refused
+//!
+//! Lengths are in metres. Light is in any unit of which 0.0001 is next to nothing, as lux, since a solve
+//! ends at a change under that. What a room is reset with is the light that each surfel gives off of the
+//! lamps': its albedo times the irradiance from them, which is the host's to find, as the example `clinic`
+//! does by [`Scene::soft_shadow`]. A surface receives that irradiance and `irr`.
+//!
+//! Some things are accepted and give wrong light all the same: a normal of a plane or a surfel, or a
+//! direction of a ray, that is not of length 1; light to [`Room::reset`] that was not multiplied by the
+//! albedo; a grid whose cell is smaller than the radius of the readings; surfels that are not those of
+//! which a grid was built; and a room without walls (planes are endless, so that a floor and a ceiling alone
+//! pass for a closed room).
+//!
 //! # Refusals
 //!
 //! Nothing is asked of a caller: any numbers get an answer. What an entry cannot work with it refuses, as
 //! [`Refused`], with a number from 1 to 8 and a sentence that says what to mend; nothing has then been
-//! changed. The columns of the types here are public, since they are yours: one of the wrong length, or
+//! changed (but for the rows that did fit, in 8 of [`lent::build`]). The columns of the types here are public, since they are yours: one of the wrong length, or
 //! with a NaN in it, is refused where it is used.
 //!
 //! # Two layers
@@ -63,7 +76,7 @@
 //! you lend, with every count explicit; it allocates no column.
 //!
 //! The crate runs on x86-64 Linux and depends on no other. Its build script builds the library with `rt`
-//! from the repository that it stands in, which proves the library and takes some ten minutes the first
+//! from the repository that it stands in, which proves the library and takes six to nine minutes the first
 //! time, or takes `libinterflect.a` from the folder that the environment variable `SOKITAHE_LIB_DIR` names.
 #![deny(missing_docs)]
 #![deny(unsafe_code)]

@@ -4,8 +4,8 @@ use std::fmt;
 
 /// A call that the library refused: which entry, by which number, and what to mend.
 ///
-/// A refused call has written nothing, but for number 8 of `build`, which has written the rows before
-/// the one that did not fit. Where several numbers apply, it is the lowest.
+/// A refused call has written nothing, but for number 8 of [`lent::build`](crate::lent::build), which has
+/// written the rows before the one that did not fit. Where several numbers apply, it is the lowest.
 ///
 /// ```
 /// use sokitahe::Scene;
@@ -97,7 +97,7 @@ impl Error for Refused {}
 
 const BOX: &str =
     "the bounds: lo is not above hi on any axis, and no component is NaN or beyond ±10,000";
-const PARTS: &str = "the scene's tables: a kind is 0..6, a base and all that is subtracted from it are primitives of the table, a plane's base is a plane, and an object's is none";
+const PARTS: &str = "the scene's parts: a plane's base is a plane and an object's is none (`Scene::plane` adds planes), a kind is 0..6, and a base and all that is subtracted from it are primitives of the table";
 
 const SCENE: &[(u32, &str)] = &[
     (2, "a count: primitives, planes and objects are at most 256 each"),
@@ -122,7 +122,7 @@ const GRID_BUILD: &[(u32, &str)] = &[
 ];
 
 const STARTS: &str =
-    "the grid's tables: starts begin at 0, never fall and end at n, and each item is below n";
+    "the grid's tables: starts begin at 0, never fall and end at n, and each item is below n; box and cell are those that the grid was built with";
 
 const NEAR: &[(u32, &str)] = &[
     (2, "the number of points, which is at most 400,000"),
@@ -135,7 +135,7 @@ const NEAR: &[(u32, &str)] = &[
 const GATHER: &[(u32, &str)] = &[
     (2, "the number of points or probes, which is at most 400,000"),
     (3, "the bounds, the cell or the radius: lo is not above hi on any axis, no component is NaN or beyond ±10,000, the cell is 0.0001..10,000, and the radius 0..10,000"),
-    (4, "a slice that is too short: starts has a place for each cell and one more, items a place a point, the columns three floats a surfel, and those of probes a place or a vector a probe"),
+    (4, "a slice that is too short: starts has a place for each cell and one more, items a place a point, the columns of surfels three floats for each point of the grid, and those of probes a place or a vector a probe"),
     (5, "a point or a normal, of a surfel or a probe, that is NaN, infinite or beyond ±10,000"),
     (7, STARTS),
 ];
@@ -143,27 +143,27 @@ const GATHER: &[(u32, &str)] = &[
 const BUILD_CLUSTERS: &[(u32, &str)] = &[
     (2, "the number of surfels, which is at most 400,000"),
     (3, "the bounds or res: lo is not above hi on any axis, no component is NaN or beyond ±10,000, and res is 1..64"),
-    (4, "a slice that is too short: a column of the surfels, of the clusters, the members, or the scratch, each with an entry a surfel"),
+    (4, "a slice that is too short: a column of the surfels (each has an entry for each area), of the clusters, the members, or the scratch, each with an entry a surfel"),
     (5, "a number that is NaN, infinite or out of range: points and normals are within ±10,000, an area 0..1,000,000"),
 ];
 
 const BUILD: &[(u32, &str)] = &[
     (2, "a count: surfels are at most 400,000, clusters 65,536, primitives, planes and objects 256 each; with too many clusters take a smaller res"),
     (3, BOX),
-    (4, "a slice that is too short: a table of the scene, a column of the surfels or of the clusters, the starts, one more than surfels, or the scratch, an entry a cluster"),
+    (4, "a slice that is too short: a table of the scene, a column of the surfels or of the clusters (each has an entry for each area), the starts, one more than surfels, or the scratch, an entry a cluster"),
     (5, "a number that is NaN, infinite or out of range: coordinates, normals and plane heights are within ±10,000, radii and half-sizes 0..10,000, a cluster's area 0..1e12 and its radius 0..1,000,000"),
     (6, PARTS),
-    (8, "the room for links: the links of this row, after those of the rows before it, do not fit the shorter link slice, of which at most 16,777,216 places are used"),
+    (8, "the room for links: the links of this row, after those of the rows before it, do not fit the shorter link slice, of which at most 16,777,216 places are used: lend more, n × nc are always enough, or build the rows from this one on by a call of their own"),
 ];
 
 const SOLVE: &[(u32, &str)] = &[
     (2, "a count: surfels and members are at most 400,000, clusters 65,536, links 16,777,216, and the limit 4,096"),
-    (4, "a slice that is too short: a column of the surfels, of the clusters, the members, the starts, one more than surfels, the links, or the scratch, a vector a cluster"),
+    (4, "a slice that is too short: a column of the surfels or of the clusters (each has an entry for each area), the members, the starts, one more than surfels, the links, or the scratch (`cluster_light` of a room), a vector a cluster"),
     (5, "a number that is NaN, infinite or out of range: albedo is 0..1, area and direct 0..1,000,000, a cluster's area 0..1e12, a weight 0..2"),
     (7, ROWS),
 ];
 
-const ROWS: &str = "the rows or the members: starts begin at 0, never fall and end at the number of links, the links of a row ascend and each is below the number of clusters, the members' ranges follow one another from 0 to their number, and each member is below the number of surfels";
+const ROWS: &str = "the rows or the members: starts begin at 0, never fall and end at the number of links, the links of a row ascend and each is below the number of clusters, the members' ranges follow one another from 0 to their number, and each member is below the number of surfels; rows, clusters and surfels are of one room";
 const LIGHT: &str = "light that is NaN, infinite or outside 0..1,000,000";
 
 const RESET: &[(u32, &str)] = &[

@@ -9,7 +9,7 @@ use crate::scene::Scene;
 use crate::surfels::Surfels;
 
 /// Transfer rows: row i is the links `starts[i]..starts[i + 1]`, each a cluster and the weight by which
-/// its light reaches surfel i.
+/// its light reaches surfel i. [`lent::build`](crate::lent::build) says what a weight is.
 ///
 /// ```
 /// use sokitahe::{Bounds, Clusters, Rows, Scene, Surfels};
@@ -46,7 +46,7 @@ impl Rows {
     /// Builds the rows of all surfels by one call on this thread.
     ///
     /// Refuses as [`lent::build`](crate::lent::build), with 8 only where the links would be more than
-    /// 16,777,216.
+    /// 16,777,216. It makes room for a link of each surfel to each cluster, 8 bytes each, while it builds.
     pub fn build(
         scene: &Scene,
         bounds: Bounds,

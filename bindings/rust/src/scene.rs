@@ -20,12 +20,12 @@ pub enum Shape {
         c: Vec3,
         /// Its half-sizes, with the rounding in them.
         b: Vec3,
-        /// The radius of the rounded edges.
+        /// The radius of the rounded edges, at most the least half-size.
         r: f32,
     },
     /// A plane: all points p whose dot(p, n) is at most h lie behind it.
     Plane {
-        /// Its normal.
+        /// Its normal, of length 1: with another what is answered is no distance.
         n: Vec3,
         /// How far along the normal from the origin it lies.
         h: f32,
@@ -195,7 +195,7 @@ impl Scene {
         table_number(self.materials.len() - 1)
     }
 
-    /// Adds the plane whose distance from p is dot(p, n) − h.
+    /// Adds the plane whose distance from p is dot(p, n) − h, with a normal of length 1. It is endless.
     pub fn plane(&mut self, n: Vec3, h: f32, material: u32) {
         self.plane_less(n, h, &[], material);
     }
@@ -241,18 +241,20 @@ impl Scene {
         lent::dist_mat(self.tables(), p)
     }
 
-    /// The normal of the surface nearest to `p`. Refuses as [`lent::dist_mat`].
+    /// The normal of the surface nearest to `p`; in a scene of nothing it has a NaN. Refuses as
+    /// [`lent::dist_mat`].
     pub fn normal(&self, p: Vec3) -> Result<Vec3, Refused> {
         lent::normal(self.tables(), p)
     }
 
-    /// What a ray from `ro` along `rd` meets between `tmin` and `tmax`. Refuses as [`lent::trace`].
+    /// What a ray from `ro` along `rd`, of length 1, meets between `tmin` and `tmax`. Refuses as
+    /// [`lent::trace`].
     pub fn trace(&self, ro: Vec3, rd: Vec3, tmin: f32, tmax: f32) -> Result<Traced, Refused> {
         lent::trace(self.tables(), ro, rd, tmin, tmax)
     }
 
-    /// How much of a light is seen from `ro` along `rd` between `tmin` and `tmax`, with shadows the
-    /// softer the smaller `k` is. Refuses as [`lent::soft_shadow`].
+    /// How much of a light is seen from `ro` along `rd`, of length 1, between `tmin` and `tmax`, with
+    /// shadows the softer the smaller `k` is: [`lent::soft_shadow`] says how to choose these, and refuses.
     pub fn soft_shadow(
         &self,
         ro: Vec3,

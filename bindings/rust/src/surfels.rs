@@ -20,7 +20,7 @@ use crate::scene::Scene;
 /// let mut surfels = Surfels::place(&scene, bounds, 30)?;
 /// assert!(!surfels.is_empty() && surfels.len() <= 30);
 ///
-/// // Lamps enter as direct light, a vector a surfel.
+/// // Lamps enter as direct light, a vector a surfel: albedo × irradiance.
 /// surfels.reset(&vec![[1.0; 3]; surfels.len()])?;
 /// assert_eq!((surfels.rad[0], surfels.irr[0]), ([1.0; 3], [0.0; 3]));
 /// # Ok::<(), sokitahe::Refused>(())
@@ -29,13 +29,13 @@ use crate::scene::Scene;
 pub struct Surfels {
     /// Their points.
     pub p: Vec<Vec3>,
-    /// Their normals.
+    /// Their normals, of length 1.
     pub normals: Vec<Vec3>,
     /// The part of light that each returns, 0 to 1 a channel.
     pub albedo: Vec<Vec3>,
     /// Their areas, 0 to 1,000,000.
     pub area: Vec<f32>,
-    /// What each gives off of the lamps' light, 0 to 1,000,000.
+    /// What each gives off of the lamps' light, albedo × irradiance, 0 to 1,000,000.
     pub direct: Vec<Vec3>,
     /// The indirect irradiance: what reaches each after at least one bounce, before its colour.
     pub irr: Vec<Vec3>,
@@ -45,7 +45,8 @@ pub struct Surfels {
 
 impl Surfels {
     /// Places up to `target` surfels, at most 400,000, on the surfaces of the scene within the bounds;
-    /// fewer may come to lie. Their light is zero.
+    /// fewer may come to lie. Their light is zero. Each has the area d² / 0.65, where d is
+    /// [`Bounds::spacing`], so that areas need not sum to the surface's.
     ///
     /// Refuses as [`lent::generate`].
     pub fn place(scene: &Scene, bounds: Bounds, target: usize) -> Result<Surfels, Refused> {
@@ -81,7 +82,8 @@ impl Surfels {
         self.area.is_empty()
     }
 
-    /// Sets the light before the first bounce: `direct` and `rad` become the light, `irr` zero.
+    /// Sets the light before the first bounce: `direct` and `rad` become the light, which is what each
+    /// surfel gives off of the lamps', albedo × irradiance; `irr` becomes zero.
     ///
     /// Refuses as [`lent::reset`]: with 4 where the light, `direct`, `irr` and `rad` are not of one
     /// length.

@@ -7,7 +7,7 @@ use crate::lent::{GridTables, ProbeTables, SurfelTables};
 use crate::refused::Refused;
 
 /// Sorts `n` points into the cells of a box, and answers how many cells there are on each axis, 1 to
-/// 512. `starts` needs a place for each cell and one more, `items` one a point.
+/// 512. `starts` needs a place for each cell and one more, `bounds.cells(cell) + 1`, `items` one a point.
 ///
 /// Refuses with 2 (over 400,000 points), 3 (the bounds, or the cell outside 0.0001..10,000), 4 (a slice
 /// too short) and 5 (a point that is NaN, infinite or beyond 10,000).
@@ -43,6 +43,11 @@ pub fn near(
 
 /// The reading at a point: the indirect irradiance of the surfels near it, weighed, or unseen where
 /// none of them covers the point.
+///
+/// The surfels within the radius in the cells within one of the point's own are weighed: a cell smaller
+/// than the radius leaves some out. With c the dot product of its normal and the reading's, a surfel weighs
+/// (1 − distance² / radius²)² × c where c is over 0.15, else nothing. So a point in the air is seen, too,
+/// within the radius of a surface that faces its normal's way.
 ///
 /// Refuses with 2, 3 (the bounds, the cell, or the radius outside 0..10,000), 4, 5 (a point or a normal)
 /// and 7 (tables that are no grid's).

@@ -10,7 +10,7 @@ use crate::refused::Refused;
 ///
 /// `mats` is how many materials there are, at most 256, and `materials` four floats each, albedo and
 /// metallic. The scratch `head` needs a number for each cell whose side is the least distance of two
-/// surfels, `next` one for each of the target.
+/// surfels, `bounds.cells(bounds.spacing(target))` of them, `next` one for each of the target.
 ///
 /// Refuses with 2 (a target over 400,000, a count over 256), 3 (the bounds), 4 (a slice too short),
 /// 5 (a float of the scene, an albedo or metallic outside 0..1) and 6 (the scene's tables).

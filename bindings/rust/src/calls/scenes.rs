@@ -6,7 +6,8 @@ use crate::lent::SceneTables;
 use crate::refused::Refused;
 use crate::scene::{Closure, Hit, Nearest, Shadow, Traced};
 
-/// How far what is nearest to `p` lies, and its material.
+/// How far what is nearest to `p` lies, and its material; in a scene of nothing the greatest float and
+/// material 0.
 ///
 /// Refuses with 2 (a count over 256), 4 (a table too short), 5 (a float of the scene or the point that
 /// is NaN, infinite or out of range) and 6 (parts that do not fit the table of primitives).
@@ -16,7 +17,7 @@ pub fn dist_mat(scene: SceneTables<'_>, p: Vec3) -> Result<Nearest, Refused> {
     answered("dist_mat", result, Nearest { distance, material })
 }
 
-/// The normal of the surface nearest to `p`. Refuses as [`dist_mat`].
+/// The normal of the surface nearest to `p`; in a scene of nothing it has a NaN. Refuses as [`dist_mat`].
 pub fn normal(scene: SceneTables<'_>, p: Vec3) -> Result<Vec3, Refused> {
     let mut n = [0.0; 3];
     let result = call!(interflect_normal: scene scene, vector p, outs n,);
@@ -24,7 +25,8 @@ pub fn normal(scene: SceneTables<'_>, p: Vec3) -> Result<Vec3, Refused> {
 }
 
 /// What a ray from `ro` along `rd` meets between `tmin` and `tmax`, within 128 steps, and how often
-/// the distance was evaluated, at most 132 times. Direction and ends may be any floats.
+/// the distance was evaluated, at most 132 times. Direction and ends may be any floats; they are lengths
+/// where `rd` is of length 1, and with another `rd` the ray may pass into a surface.
 ///
 /// Refuses as [`dist_mat`], with 5 for the origin.
 pub fn trace(
@@ -45,7 +47,12 @@ pub fn trace(
 /// How much of a light is seen from `ro` along `rd` between `tmin` and `tmax`, 0 to 1, with shadows
 /// the softer the smaller `k` is, and how often the distance was evaluated, at most 96 times.
 ///
-/// Refuses as [`trace`]. Direction, ends and `k` may be any floats.
+/// Begin above 0, off the surface that `ro` lies on, which else hides all, and end short of the surface
+/// that the lamp hangs on, which else darkens it. A `k` of distance by the lamp's radius, 1.5 to 96, suits
+/// a lamp.
+///
+/// Refuses as [`trace`]. Direction, ends and `k` may be any floats; let `rd` be of length 1, and none of
+/// them a NaN, with which all may count as seen.
 pub fn soft_shadow(
     scene: SceneTables<'_>,
     ro: Vec3,

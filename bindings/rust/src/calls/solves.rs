@@ -5,9 +5,10 @@ use crate::lent::{Light, RoomTables};
 use crate::refused::Refused;
 use crate::room::Solved;
 
-/// Bounces light until the last change is under 0.0001 or `limit` bounces are made. The bounces go on
-/// from the `rad` that is lent; `irr` and `rad` have a vector a surfel, `scratch` one a cluster, which
-/// ends as the clusters' light of the last bounce. All three stay as lent where no bounce is made.
+/// Bounces light until the last change is under 0.0001, in the light's own unit, or `limit` bounces are
+/// made. The bounces go on from the `rad` that is lent; `irr` and `rad` have a vector a surfel, `scratch`
+/// one a cluster, which ends as the clusters' light of the last bounce. All three stay as lent where no
+/// bounce is made.
 ///
 /// Refuses with 2 (a count, or a limit over 4,096), 4 (a slice too short), 5 (a number out of range;
 /// `irr` and `rad` may be any floats) and 7 (rows or members that do not fit together).
@@ -34,7 +35,8 @@ pub fn solve(
     )
 }
 
-/// The light of surfels before the first bounce: `direct` and `rad` become the light, `irr` zero.
+/// The light of surfels before the first bounce: `direct` and `rad` become the light, which is what each
+/// gives off of the lamps', albedo × irradiance; `irr` becomes zero.
 ///
 /// Refuses with 2 (a list over 1,200,000 floats), 4 (lists that are not of one length, or of a length
 /// that is no multiple of three) and 5 (light outside 0..1,000,000).
