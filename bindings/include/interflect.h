@@ -171,9 +171,10 @@ uint32_t interflect_trace(
     uint32_t *mat, uint32_t *evals);
 
 /* How much of a light along rd is seen from ro between tmin and tmax; the larger k, the harder the
- * shadow's edge (distance over the lamp's radius, 1.5 to 96, suits a lamp). rd, tmin, tmax and k may be any
- * floats; a NaN among them may give 1. Let rd be of length 1, begin above 0, off the surface that ro lies
- * on, which else hides all, and end short of the surface that the lamp hangs on, which else darkens it.
+ * shadow's edge. rd, tmin, tmax and k may be any floats; a NaN among them may give 1.
+ * Let rd be of length 1. Begin above 0, off the surface that ro lies on, which else hides all, and end short
+ * of the surface that the lamp hangs on, which else darkens it. The renderer takes ro 0.003 off the surface,
+ * 0.015 as tmin, 1.25 radii of the lamp short of it as tmax, and distance over radius, 1.5 to 96, as k.
  * Outs: visibility, 0 to 1; evals, how many distances were evaluated, at most 96.
  * Refuses 2 4 5 6. 5 also: ro no point. */
 uint32_t interflect_soft_shadow(

@@ -48,8 +48,8 @@ pub fn trace(
 /// the softer the smaller `k` is, and how often the distance was evaluated, at most 96 times.
 ///
 /// Begin above 0, off the surface that `ro` lies on, which else hides all, and end short of the surface
-/// that the lamp hangs on, which else darkens it. A `k` of distance by the lamp's radius, 1.5 to 96, suits
-/// a lamp.
+/// that the lamp hangs on, which else darkens it. The renderer takes `ro` 0.003 off the surface, 0.015 as
+/// `tmin`, 1.25 radii of the lamp short of it as `tmax`, and distance by radius, 1.5 to 96, as `k`.
 ///
 /// Refuses as [`trace`]. Direction, ends and `k` may be any floats; let `rd` be of length 1, and none of
 /// them a NaN, with which all may count as seen.
