@@ -151,7 +151,8 @@ uint32_t interflect_normal(
     float *nx, float *ny, float *nz);
 
 /* What the ray from ro along rd meets between tmin and tmax, in at most 128 steps; rd, tmin and tmax may
- * be any floats, and are lengths where rd is of length 1. The first sample is at tmin, whatever tmax is.
+ * be any floats. Along an rd of length 1 tmin, tmax and t are distances. The first sample is at tmin,
+ * whatever tmax is.
  * Outs: hit becomes 1, and then t (how far along rd), px py pz (the point), nx ny nz (the normal there)
  * and mat are written; or hit becomes 0, and those stay as they were. evals becomes how many distances
  * were evaluated, at most 132.

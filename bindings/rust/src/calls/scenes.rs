@@ -25,8 +25,8 @@ pub fn normal(scene: SceneTables<'_>, p: Vec3) -> Result<Vec3, Refused> {
 }
 
 /// What a ray from `ro` along `rd` meets between `tmin` and `tmax`, within 128 steps, and how often
-/// the distance was evaluated, at most 132 times. Direction and ends may be any floats; they are lengths
-/// where `rd` is of length 1, and with another `rd` the ray may pass into a surface.
+/// the distance was evaluated, at most 132 times. Direction and ends may be any floats. Along an
+/// `rd` of length 1 the ends and `t` are distances; with another the ray may pass into a surface.
 ///
 /// Refuses as [`dist_mat`], with 5 for the origin.
 pub fn trace(
