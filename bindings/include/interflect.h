@@ -45,8 +45,8 @@
  * any unit of which 0.0001 is next to nothing, as lux: a solve ends at a change under 0.0001.
  *
  * What is accepted and gives wrong light all the same: a plane's normal, a ray's direction or a surfel's
- * normal that is not of length 1 (what is then called a distance is none, and a ray may pass into a
- * surface); light to reset that was not multiplied by the albedo; a cell smaller than the radius of the
+ * normal that is not of length 1 (what then counts as a distance or a cosine is none, and a ray may pass into
+ * a surface); light to reset that was not multiplied by the albedo; a cell smaller than the radius of the
  * readings (surfels within the radius are left out); a room left without walls (planes are endless, so that
  * a floor and a ceiling alone pass for a closed room).
  */
@@ -175,7 +175,8 @@ uint32_t interflect_trace(
  * shadow's edge. rd, tmin, tmax and k may be any floats; a NaN among them may give 1.
  * Let rd be of length 1. Begin above 0, off the surface that ro lies on, which else hides all, and end short
  * of the surface that the lamp hangs on, which else darkens it. The renderer takes ro 0.003 off the surface,
- * 0.015 as tmin, 1.25 radii of the lamp short of it as tmax, and distance over radius, 1.5 to 96, as k.
+ * 0.015 as tmin, 1.25 radii of the lamp short of it, at least 0.05, as tmax, and distance over radius, 1.5 to
+ * 96, as k.
  * Outs: visibility, 0 to 1; evals, how many distances were evaluated, at most 96.
  * Refuses 2 4 5 6. 5 also: ro no point. */
 uint32_t interflect_soft_shadow(
@@ -381,13 +382,14 @@ uint32_t interflect_build_clusters(
 /* Builds the transfer rows of n surfels over nc clusters: which clusters light a surfel, and by how much.
  * A weight is the cluster's form factor times what is seen of it. A row whose sum is over 0.00001 is scaled,
  * by at most 8, to sum to the part of 16 directions that meets something. The diagonal of the box says how
- * far off the surfel rays begin and how far they go: take the box of the placement.
+ * far off the surfel rays begin and how far the 16 directions go: take the box of the placement.
  * The rows of some of the surfels, built by themselves with the same scene, box and clusters, are those
  * rows of the whole: parts may be built on several threads.
  * Needs: p, normals (n vectors each); cluster_p, cluster_n (nc vectors each), cluster_area, cluster_radius
  * (nc floats each).
  * Writes: starts, n + 1 numbers, where each row begins among the links, and the end; link_cluster and
- * link_weight, a link each, as long as the caller likes: n nc places always suffice, mostly far fewer.
+ * link_weight, a link each, as long as the caller likes: n nc places suffice where that is at most
+ * 16,777,216, and mostly far fewer do.
  * Scratch: link (nc numbers), weight (nc floats).
  * Outs: links, how many links there are; mean_row_sum, the mean of the row sums over the rows with links,
  * 0 if none has any; evals, how many distances were evaluated, at most n (96 nc + 2,112). row is left alone.

@@ -67,8 +67,8 @@
 //!
 //! Nothing is asked of a caller: any numbers get an answer. What an entry cannot work with it refuses, as
 //! [`Refused`], with a number from 1 to 8 and a sentence that says what to mend; nothing has then been
-//! changed (but for the rows that did fit, in 8 of [`lent::build`]). The columns of the types here are public, since they are yours: one of the wrong length, or
-//! with a NaN in it, is refused where it is used.
+//! changed (but for the rows that did fit, in 8 of [`lent::build`]). The columns of the types here are
+//! public, since they are yours: one of the wrong length, or with a NaN in it, is refused where it is used.
 //!
 //! # Two layers
 //!

@@ -153,7 +153,7 @@ const BUILD: &[(u32, &str)] = &[
     (4, "a slice that is too short: a table of the scene, a column of the surfels or of the clusters (each has an entry for each area), the starts, one more than surfels, or the scratch, an entry a cluster"),
     (5, "a number that is NaN, infinite or out of range: coordinates, normals and plane heights are within ±10,000, radii and half-sizes 0..10,000, a cluster's area 0..1e12 and its radius 0..1,000,000"),
     (6, PARTS),
-    (8, "the room for links: the links of this row, after those of the rows before it, do not fit the shorter link slice, of which at most 16,777,216 places are used: lend more, n × nc are always enough, or build the rows from this one on by a call of their own"),
+    (8, "the room for links: the links of this row, after those of the rows before it, do not fit the shorter link slice, of which at most 16,777,216 places are used: lend more, at most n × nc, or build the rows from this one on by a call of their own, or take fewer clusters"),
 ];
 
 const SOLVE: &[(u32, &str)] = &[

@@ -3,6 +3,7 @@
 //
 // No public function here asks anything of its caller.
 // Kept: an answer's numbers are written through a reference each, since C lends them so.
+// Kept: a match in each function. Handed as closures to one, the same takes over three times as long to check.
 #![tactic(auto)]
 
 mod counts;

@@ -37,7 +37,8 @@ pub fn build_clusters(
 ///
 /// A weight is the cluster's form factor times what is seen of it. A row whose sum is over 0.00001 is
 /// scaled, by at most 8, to sum to the part of 16 directions that meets something. The diagonal of the
-/// bounds says how far off the surfel rays begin and how far they go: take those of the placement.
+/// bounds says how far off the surfel rays begin and how far the 16 directions go: take those of the
+/// placement.
 ///
 /// Refuses with 2 to 6, and then has written nothing. Refuses with 8 where the links of a row, after
 /// those of the rows before it, do not fit: the rows before [`Refused::row`] and the starts up to it,

@@ -49,7 +49,8 @@ pub fn trace(
 ///
 /// Begin above 0, off the surface that `ro` lies on, which else hides all, and end short of the surface
 /// that the lamp hangs on, which else darkens it. The renderer takes `ro` 0.003 off the surface, 0.015 as
-/// `tmin`, 1.25 radii of the lamp short of it as `tmax`, and distance by radius, 1.5 to 96, as `k`.
+/// `tmin`, 1.25 radii of the lamp short of it, at least 0.05, as `tmax`, and distance by radius, 1.5 to 96,
+/// as `k`.
 ///
 /// Refuses as [`trace`]. Direction, ends and `k` may be any floats; let `rd` be of length 1, and none of
 /// them a NaN, with which all may count as seen.
