@@ -104,13 +104,15 @@ module _ (g : Grid) (p : Vec3) (reach : ℕ) (h : list_fits g ≡ true) where
   ends : (j k : ℕ) → j < count_near c.y reach d.y → k < count_near c.z reach d.z → number_at g.starts (first j k + wide) ≤ g.n
   ends j k a b = starts_fit.1.inside (first j k + wide) (row_in j k a b)
 
-  rows_held : RowsHeld g.starts g.items (block_near g.lo g.hi g.side p reach)
+  -- which lie in the tables
+  pub rows_held : RowsHeld g.starts g.items g.n (block_near g.lo g.hi g.side p reach)
   unfolding block_near
   rows_held =
       record {
         started = λ j k a b. rw (first_row g.lo g.hi g.side p reach j k) (omega (arith, row_in j k a b, starts_fit.0));
         rises = λ j k a b. rw (first_row g.lo g.hi g.side p reach j k) (run (first j k) wide (row_in j k a b));
-        ends = λ j k a b. rw (first_row g.lo g.hi g.side p reach j k) (omega (arith, ends j k a b, items_fit.0));
+        ends = λ j k a b. rw (first_row g.lo g.hi g.side p reach j k) (ends j k a b);
+        held = items_fit.0;
       }
 
   -- each row ends among the first n items
@@ -122,7 +124,12 @@ module _ (g : Grid) (p : Vec3) (reach : ℕ) (h : list_fits g ≡ true) where
   -- so that one can go over them
   pub rows_begin : RowsLeft g.starts g.items (block_near g.lo g.hi g.side p reach) 0
   unfolding block_near
-  rows_begin = record { held = rows_held; next = omega (arith, (inside g.lo g.hi g.side p reach).y_in) }
+  rows_begin =
+      let h = rows_held in
+      record {
+        held = record { started = h.started; rises = h.rises; ends = λ j k a b. omega (arith, h.ends j k a b, h.held); held = omega arith };
+        next = omega (arith, (inside g.lo g.hi g.side p reach).y_in);
+      }
 
   front_below : (m : ℕ) → m ≤ g.n → All (λ k. k < g.n) (take m g.items)
   front_below m h k d l =

@@ -58,13 +58,14 @@ rows_near g p reach = rows_listed g.starts g.items (block_near g.lo g.hi g.side 
 abbrev pub counted : List (List ℕ) → ℕ → Result ℕ Refusal
 counted l room = cond (leb (length (concat l)) room) (Ok (length (concat l))) (Err Length)
 
--- each row of a block lies within starts, and its numbers within items
-pub record RowsHeld (starts items : List ℕ) (b : Block) : Type 0 where
+-- each row of a block lies within starts, and its numbers within the first n of items
+pub record RowsHeld (starts items : List ℕ) (n : ℕ) (b : Block) : Type 0 where
   pub started : (y z : ℕ) → y < b.rows → z < b.layers → row_cell b y z + b.wide < length starts
   pub rises : (y z : ℕ) → y < b.rows → z < b.layers → row_from starts b y z ≤ row_to starts b y z
-  pub ends : (y z : ℕ) → y < b.rows → z < b.layers → row_to starts b y z ≤ length items
+  pub ends : (y z : ℕ) → y < b.rows → z < b.layers → row_to starts b y z ≤ n
+  pub held : n ≤ length items
 
 -- and the next row is number y of its layer
 pub record RowsLeft (starts items : List ℕ) (b : Block) (y : ℕ) : Type 0 where
-  pub held : RowsHeld starts items b
+  pub held : RowsHeld starts items (length items) b
   pub next : y < b.rows
