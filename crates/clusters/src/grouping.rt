@@ -11,7 +11,7 @@ use crate::keys::{surfel_key, vector_at};
 use crate::surfels::Divided;
 use crate::{Clustered, Sums};
 use accept::wide;
-use vector::Vec3;
+use vector::{Vec3, put_all};
 
 // The groups, and how many they are: first has where the members of each begin, count how many it
 // has.
@@ -43,7 +43,7 @@ pub fn group(
         if !(sum_members(d, run).area <= 1e-12) {
             first[k] = w as u32;
             count[k] = run.len() as u32;
-            members[w..w + run.len()].copy_from_slice(run);
+            put_all(members, w, run);
             k += 1;
             w += run.len();
         }

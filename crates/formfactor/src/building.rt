@@ -10,6 +10,7 @@ ghost use Rattle.formfactor.specs.Needs.{ScratchHeld, Small, with_links, with_ro
 use crate::setting::Setting;
 use crate::{BuildError, Built, Interior, RowMade, RowsMade};
 use accept::limits::MAX_LINKS;
+use vector::put_all;
 
 impl Setting<'_> {
     // Builds the rows of the surfels until one does not fit.
@@ -75,8 +76,8 @@ fn put_links(
     ensures link_cluster_after { link_cluster.new ≡ sets link_cluster.old at (take k link.now) }
     ensures link_weight_after { link_weight.new ≡ sets link_weight.old at (take k weight.now) }
 {
-    link_cluster[at..at + k].copy_from_slice(&link[..k]);
-    link_weight[at..at + k].copy_from_slice(&weight[..k]);
+    put_all(link_cluster, at, &link[..k]);
+    put_all(link_weight, at, &weight[..k]);
 }
 
 impl RowsMade {

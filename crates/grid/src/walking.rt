@@ -10,7 +10,7 @@ ghost use Rattle.grid.specs.Rows.{rows_near, counted};
 use crate::{Block, Grid};
 use accept::{Refusal, require, wide};
 use std::marker::Model;
-use vector::Vec3;
+use vector::{Vec3, put_all};
 
 // A grid whose starts and items fit together, as `check` hands it out.
 #[derive(Drop)]
@@ -120,7 +120,7 @@ pub fn list_numbers(rows: Rows, list: &mut [u32])
 {
     let mut at = 0;
     for row in rows {
-        list[at..at + row.len()].copy_from_slice(row);
+        put_all(list, at, row);
         at += row.len();
     }
 }

@@ -4,6 +4,7 @@ ghost use Rattle.reset.specs.Resetting.{lists_within, lengths_equal, check, rese
 
 use accept::limits::{MAX_AMOUNT, MAX_SURFELS};
 use accept::{Refusal, at_most, floats_within, require};
+use vector::put_all;
 
 // Sets direct and rad to the given light and irr to zero, three floats a surfel in each list, or
 // refuses the call and then writes nothing.
@@ -17,9 +18,9 @@ pub fn reset(
         ≡ reset_answer light.now direct.old irr.old rad.old }
 {
     check(light, direct.len(), irr.len(), rad.len())?;
-    direct.copy_from_slice(light);
+    put_all(direct, 0, light);
     irr.fill(0.0);
-    rad.copy_from_slice(light);
+    put_all(rad, 0, light);
     Ok(())
 }
 

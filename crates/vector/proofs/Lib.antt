@@ -1,4 +1,5 @@
 -- What the proofs of several functions use, and the laws that other crates cite.
+pub mod Items
 pub mod Sums
 pub mod Replaced
 pub mod Puts

@@ -1,5 +1,6 @@
 // Floats of a slice, and vectors of a flat slice, three floats each.
 ghost use Rattle.std.specs.Prelude.{◌≡◌, set};
+ghost use Rattle.std.proofs.lemmas.List.Edits.{sets};
 ghost use Rattle.float.specs.Column.{float_at};
 ghost use Rattle.vector.specs.Flat.{vec_at, put_at};
 
@@ -61,5 +62,16 @@ pub fn put_float(s: &mut [f32], k: usize, x: f32)
 {
     if k < s.len() {
         s[k] = x;
+    }
+}
+
+// Stores the items one after the other from place `at` on; an item that would lie past the end is not
+// stored. A library for C that copies so needs no memmove from outside, as with `copy_from_slice`.
+pub fn put_all<T: Copy>(s: &mut [T], at: usize, items: &[T])
+    ensures { s.new ≡ sets s.old at items.now }
+{
+    let places = s.len().saturating_sub(at).min(items.len());
+    for (k, item) in items[..places].iter().enumerate() {
+        s[at + k] = *item;
     }
 }

@@ -7,7 +7,7 @@ mod arithmetic;
 mod flat;
 mod tangent;
 
-pub use flat::{at, float_at, put, put_float};
+pub use flat::{at, float_at, put, put_all, put_float};
 pub use tangent::frame;
 
 // Three floats: a point, a direction, or light in three channels. For C it is x, y, z in this order.

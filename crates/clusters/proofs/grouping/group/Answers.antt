@@ -3,7 +3,7 @@ use Rattle.std.proofs.Common.{◌≡◌, ◌-◌, ◌<◌, length, take, drop, r
 use lib.Seq.{sets}
 use Rattle.clusters.specs.Grouping.{dropped}
 use Rattle.clusters.proofs.Gathered.{numbers, part_below, part_none, part_all, part_dropped, part_kept}
-use Rattle.clusters.proofs.Stored.{part_is, put_part}
+use Rattle.clusters.proofs.Stored.{part_is}
 use Rattle.clusters.proofs.grouping.group.Goals as goal
 
 pub loop-at-init : goal.loop-at-init
@@ -31,11 +31,10 @@ loop-at-preserved-then-not-sum_members c =
     let n : length (take (c.run_end-end.result - c.loop-at.at) (drop c.loop-at.at a.order.now)) ≡ c.run_end-end.result - c.loop-at.at =
     omega (arith, length-take (c.run_end-end.result - c.loop-at.at) (drop c.loop-at.at a.order.now), length-drop c.loop-at.at a.order.now, r.within, c.requires.sorted.held) in
     let h : c.loop-at.at < a.d.now.surfels.n = omega (arith, c.len-n.ensures.value) in
-    let o = put_part c.loop-at.members c.copy_from_slice.new.self c.loop-at.w (c.run_end-end.result - c.loop-at.at) (rw c.copy_from_slice.ensures.after n) (omega (arith, i, r.within, c.requires.members_in_bounds)) in
     rw n
     (record {
       part = part_kept a.d.now.surfels a.d.now.voxels a.d.now.held.resolved a.order.now a.first.now a.count.now a.members.now c.requires.sorted c.requires.first_in_bounds c.requires.count_in_bounds _ i.part h r t refl refl
-          (o ∙ ap (sets c.loop-at.members c.loop-at.w) (c.copy_from_slice.ensures.after ∙ e));
+          (c.put_all.ensures ∙ ap (sets c.loop-at.members c.loop-at.w) e);
       groups_few = omega (arith, i.groups_few, r.past);
       members_few = omega (arith, i.members_few, r.past);
       at_within = omega (arith, r.within, c.len-n.ensures.value);

@@ -10,12 +10,6 @@ use Rattle.std.specs.List.{concat}
 use Rattle.vector.proofs.Stored.{sets_append}
 use Rattle.grid.proofs.walking.list_numbers.Goals as goal
 
--- a row copied into its part of the list
-put_row : (l row : List ℕ) (at : ℕ) → at + length row ≤ length l → put_mid at (at + length row - at) l row ≡ sets l at row
-put_row l row at h =
-    let e : at + length row - at ≡ length row = omega arith in
-    rw (e, drop-drop (length row) at l) (sym (sets-eq row l at h ∙ append_assoc (take at l) row (drop (at + length row) l)))
-
 pub loop-row-preserved : goal.loop-row-preserved
 loop-row-preserved c =
     let l = c.loop-row.list in
@@ -24,5 +18,5 @@ loop-row-preserved c =
     let rest = c.next.new.self in
     let v = rw c.in-Some.ensures.steps at c.loop-row.invariant in
     let n = length-append row (concat rest) in
-    rw (c.copy_from_slice.ensures.after, put_row l row at (omega (arith, v.1, n)))
+    rw c.put_all.ensures
     (sym (sets_append l at row (concat rest)) ∙ v.0, rw length-sets (omega (arith, v.1, n)), length-sets l at row ∙ v.2)
