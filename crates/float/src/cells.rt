@@ -20,8 +20,10 @@ pub fn cell_count(x: f32) -> usize
         512
     } else if (t as f32) < x {
         t + 1
+    } else if t == 0 {
+        1
     } else {
-        t.max(1)
+        t
     }
 }
 

@@ -24,7 +24,8 @@ use Rattle.grid.specs.declared.Cell.{Cell}
 use Rattle.grid.specs.declared.Dims.{Dims}
 use Rattle.grid.specs.Lent.{Grid, cells_of}
 use Rattle.grid.specs.Visiting.{first_near, count_near, listed, visited}
-use Rattle.grid.specs.Rows.{block_near, row_from, row_to, row_listed, rows_near, RowsHeld, RowsLeft}
+use Rattle.grid.specs.declared.Block.{Block}
+use Rattle.grid.specs.Rows.{block_near, row_from, row_to, row_listed, rows_listed, rows_near, RowsHeld, RowsLeft}
 use Rattle.grid.specs.Cells.{dims_of, cell_of}
 use Rattle.grid.specs.Checks.{list_fits, tests, check}
 use Rattle.grid.proofs.Around.{number, number_along, inside, first_row, row_end}
@@ -148,3 +149,11 @@ module _ (g : Grid) (p : Vec3) (reach : ℕ) (h : list_fits g ≡ true) where
       (λ k h. all_rows P (λ j. row_listed g.starts g.items b k j) b.rows
       (λ j a. All-drop P (row_from g.starts b j k) (take (row_to g.starts b j k) g.items)
       (front_below (row_to g.starts b j k) (rw (first_row g.lo g.hi g.side p reach j k) (ends j k a h)))))))
+
+-- the rows of a block that was found in a grid's own space
+pub rows_begin_at : (l g : Grid) (p : Vec3) (reach : ℕ) {b : Block} → l ≡ g → b ≡ block_near l.lo l.hi l.side p reach → list_fits g ≡ true → RowsLeft g.starts g.items b 0
+rows_begin_at l g p reach e f h = rw (f, e) (rows_begin g p reach h)
+
+pub rows_near_at : (l f g : Grid) (p : Vec3) (reach : ℕ) {b : Block} → l ≡ g → f ≡ g → b ≡ block_near l.lo l.hi l.side p reach
+    → rows_listed f.starts f.items b ≡ rows_near g p reach
+rows_near_at l f g p reach e i h = rw (h, e, i)

@@ -1,6 +1,7 @@
 // Whether a grid is accepted, and why a call on it is refused.
 ghost use Rattle.std.specs.Prelude.{◌≡◌, Ok, Err};
 ghost use Rattle.accept.specs.Refusal.{outcome};
+ghost use Rattle.grid.specs.Lent.{cells_of};
 ghost use Rattle.grid.specs.Checks.{sized, tables_hold, list_fits, check, check_build};
 
 use crate::walking::Fitted;
@@ -38,27 +39,29 @@ pub fn check<'a>(grid: &'a Grid<'a>, own: Own) -> Result<Fitted<'a>, Refusal>
 {
     require(at_most(grid.n, MAX_SURFELS) & own.few, Refusal::Count)?;
     require(grid.space.sized() & own.ranged, Refusal::Range)?;
-    require(grid.tables_hold() & own.lent, Refusal::Length)?;
+    let cells = grid.space.cells();
+    require(grid.tables_hold(cells) & own.lent, Refusal::Length)?;
     require(own.floats, Refusal::Float)?;
-    Fitted::new(grid).ok_or(Refusal::Numbers)
+    Fitted::new(grid, cells).ok_or(Refusal::Numbers)
 }
 
 impl Grid<'_> {
-    // Whether there is a start for each cell and one more, and a number for each point.
+    // Whether there is a start for each of its cells and one more, and a number for each point.
     #[tactic(auto, unfolding(crate::specs::Checks::tables_hold))]
-    fn tables_hold(&self) -> bool
+    fn tables_hold(&self, count: usize) -> bool
+        requires { count ≡ cells_of self.now }
         ensures { result ≡ tables_hold self.now }
     {
-        (self.space.cells() < self.starts.len()) & (self.n <= self.items.len())
+        (count < self.starts.len()) & (self.n <= self.items.len())
     }
 
     // Whether the starts rise from 0 to the count of points, and the items number points.
     #[tactic(auto, unfolding(crate::specs::Checks::list_fits))]
-    pub(crate) fn list_fits(&self) -> bool
+    pub(crate) fn list_fits(&self, count: usize) -> bool
+        requires { count ≡ cells_of self.now }
         ensures { result ≡ list_fits self.now }
     {
-        starts_monotone(self.starts, self.space.cells(), self.n)
-            & numbers_below(self.items, self.n, self.n)
+        starts_monotone(self.starts, count, self.n) & numbers_below(self.items, self.n, self.n)
     }
 }
 

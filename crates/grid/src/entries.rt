@@ -39,7 +39,8 @@ pub fn near(grid: &Grid, p: Vec3, reach: usize, list: &mut [u32]) -> Result<usiz
         ..Own::PASSED
     };
     let fitted = check(grid, own)?;
-    let count = count_numbers(fitted.rows_near(p, reach), list.len())?;
-    list_numbers(fitted.rows_near(p, reach), list);
+    let block = grid.space.block_near(p, reach);
+    let count = count_numbers(fitted.rows_of(block), list.len())?;
+    list_numbers(fitted.rows_of(block), list);
     Ok(count)
 }

@@ -4,8 +4,9 @@ ghost use Rattle.std.specs.Prelude.{◌≡◌, ◌≤◌, cond, length, Some, No
 ghost use Rattle.std.specs.List.{concat};
 ghost use Rattle.std.specs.Iterator.{YieldsFirstBy, item_count};
 ghost use Rattle.std.proofs.lemmas.List.Edits.{sets};
+ghost use Rattle.grid.specs.Lent.{cells_of};
 ghost use Rattle.grid.specs.Checks.{list_fits};
-ghost use Rattle.grid.specs.Rows.{rows_near, counted};
+ghost use Rattle.grid.specs.Rows.{rows_listed, rows_near, counted, RowsLeft};
 
 use crate::{Block, Grid};
 use accept::{Refusal, require, wide};
@@ -31,11 +32,12 @@ impl<'a> Model for Fitted<'a> {
 }
 
 impl<'a> Fitted<'a> {
-    // The grid, if its starts and items fit together.
-    pub(crate) fn new(grid: &'a Grid<'a>) -> Option<Fitted<'a>>
+    // The grid of so many cells, if its starts and items fit together.
+    pub(crate) fn new(grid: &'a Grid<'a>, count: usize) -> Option<Fitted<'a>>
+        requires { count ≡ cells_of grid.now }
         ensures { result ≡ cond (list_fits grid.now) (Some grid.now) None }
     {
-        if grid.list_fits() {
+        if grid.list_fits(count) {
             Some(Fitted { grid })
         } else {
             None
@@ -47,10 +49,19 @@ impl<'a> Fitted<'a> {
         ensures { result ≡ rows_near self.now p reach }
     {
         let grid = self.grid;
+        self.rows_of(grid.space.block_near(p, reach))
+    }
+
+    // The rows of a block of its cells.
+    pub(crate) fn rows_of(&self, block: Block) -> Rows<'a>
+        requires { RowsLeft self.now.starts self.now.items block 0 }
+        ensures { result ≡ rows_listed self.now.starts self.now.items block }
+    {
+        let grid = self.grid;
         Rows {
             starts: grid.starts,
             items: grid.items,
-            block: grid.space.block_near(p, reach),
+            block,
             z: 0,
             y: 0,
         }

@@ -20,7 +20,12 @@ unfolding cell_count
 returns-then-t-x c =
     omega (arith, ceiling_next c.args.x c.truncate-t.result c.truncate-t.ensures (omega arith) c.if-t-x.true)
 
-pub returns-else-t-x : goal.returns-else-t-x
+pub returns-then-t-eq0 : goal.returns-then-t-eq0
 unfolding cell_count
-returns-else-t-x c =
-    omega (arith, c.max.ensures, ceiling_same c.args.x c.truncate-t.result c.truncate-t.ensures (omega arith) c.if-t-x.false)
+returns-then-t-eq0 c =
+    omega (arith, ceiling_same c.args.x c.truncate-t.result c.truncate-t.ensures (omega arith) c.if-t-x.false)
+
+pub returns-else-t-eq0 : goal.returns-else-t-eq0
+unfolding cell_count
+returns-else-t-eq0 c =
+    omega (arith, ceiling_same c.args.x c.truncate-t.result c.truncate-t.ensures (omega arith) c.if-t-x.false)
