@@ -10,5 +10,5 @@ mod number;
 mod reading;
 
 pub use line::put;
-pub use number::{decimal, hex};
+pub use number::{decimal, hex, Numeral};
 pub use reading::word;
