@@ -89,7 +89,7 @@ fn words_in(s: &[u8]) -> Option<Words>
             break;
         }
         let digits = rest.strip_prefix(b" ")?;
-        words = words.with(text::word(digits)?);
+        words = words.with(text::word(digits, 0)?);
         rest = &digits[8..];
     }
     rest.is_empty().then_some(words)
