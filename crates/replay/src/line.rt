@@ -1,6 +1,7 @@
 // Lines, their names and their words.
 ghost use Rattle.std.specs.Prelude.{◌≡◌, ◌==◌, position, MatchOption};
 ghost use Rattle.replay.specs.Lines.{line_length as Lines·line_length, name_of as Lines·name_of, words_after, words_in as Lines·words_in, words_of as Lines·words_of};
+ghost use Rattle.replay.specs.Words.{none};
 
 use crate::Words;
 
@@ -53,6 +54,16 @@ impl<'a> Line<'a> {
         let name = name_of(line);
         let given = words_of(&line[name.len()..])?;
         Some(Line { name, given })
+    }
+
+    // What is left of a line whose words can't be read: its name, and no words.
+    pub fn unread(line: &'a [u8]) -> Line<'a>
+        ensures { (result.name.now ≡ Lines·name_of line.now) × (result.given ≡ none) }
+    {
+        Line {
+            name: name_of(line),
+            given: Words::none(),
+        }
     }
 }
 
