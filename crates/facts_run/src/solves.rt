@@ -1,7 +1,7 @@
 // Room Q of document 01, solved with a limit of 7, and with limits of 5 and 2 one after the other.
 use accept::Refusal;
 use float::bits_of;
-use replay::{Words, refused, short};
+use replay::{Words, refusal_word, short};
 use solve::SolveStats;
 use std::io;
 use transfer::{Clusters, Room, Rows};
@@ -86,7 +86,7 @@ fn words_of(q: SolvedQ) -> Words {
         Ok(made) => Words::answered()
             .with(short(made.bounces))
             .with_float(made.change),
-        Err(refusal) => refused(refusal).with(0).with_float(0.0),
+        Err(refusal) => refusal_word(refusal).with(0).with_float(0.0),
     };
     words
         .with_vector(vector::at(&q.irr, 0))

@@ -13,7 +13,7 @@ use Rattle.text.specs.Digits.{glyph, decimal_within, decimal_digits}
 use Rattle.text.proofs.Spelling.{decimal-length}
 use Rattle.text.proofs.Laws.{length_hex}
 use Rattle.vector.specs.declared.Vec3.{Vec3}
-use Rattle.lines.specs.Lines.{settled_word, open_word, seen_word, unseen_word, counts_line, bounces_line, worded_line, probe_line, refused_line}
+use Rattle.lines.specs.Lines.{settled_word, open_word, seen_word, unseen_word, counts_line, bounces_line, worded_line, probe_line, probed_line, refused_line}
 use Rattle.std.specs.Prelude.{Option, Some, None}
 use Rattle.vector.specs.Vector.{zero_vec}
 
@@ -58,13 +58,22 @@ worded_digits : (number : ℕ) (word : List ℕ) (light : Vec3) → length word 
 unfolding worded_line
 worded_digits number word light h = simp (length-append, length_hex) (omega arith)
 
-probe_digits : (number : ℕ) (seen : Option Vec3) → length (probe_line number seen) ≤ length (decimal_digits number) + 41
-probe_digits number (Some light) = worded_digits number seen_word light (omega arith)
-probe_digits number None = worded_digits number unseen_word zero_vec (omega arith)
+probe_digits : (number : ℕ) (seen : Bool) (light : Vec3) → length (probe_line number seen light) ≤ length (decimal_digits number) + 41
+probe_digits number seen light =
+    worded_digits number (cond seen seen_word unseen_word) light (either_width seen seen_word unseen_word 7 (omega arith) (omega arith))
 
 -- a number of at most four digits, and any number
-pub probe_width : (number : ℕ) (seen : Option Vec3) → number < 10000 → length (probe_line number seen) ≤ 45
-probe_width number seen h = omega (arith, probe_digits number seen, decimal_short 10 number 4 (omega arith) h)
+pub probe_width : (number : ℕ) (seen : Bool) (light : Vec3) → number < 10000 → length (probe_line number seen light) ≤ 45
+probe_width number seen light h = omega (arith, probe_digits number seen light, decimal_short 10 number 4 (omega arith) h)
 
-pub probe_short : (number : ℕ) (seen : Option Vec3) → length (probe_line number seen) ≤ 64
-probe_short number seen = omega (arith, probe_digits number seen, decimal-length 10 number)
+pub probe_short : (number : ℕ) (seen : Bool) (light : Vec3) → length (probe_line number seen light) ≤ 64
+probe_short number seen light = omega (arith, probe_digits number seen light, decimal-length 10 number)
+
+-- the same of a probe by the light that is seen there
+pub probed_width : (number : ℕ) (seen : Option Vec3) → number < 10000 → length (probed_line number seen) ≤ 45
+probed_width number (Some light) h = probe_width number true light h
+probed_width number None h = probe_width number false zero_vec h
+
+pub probed_short : (number : ℕ) (seen : Option Vec3) → length (probed_line number seen) ≤ 64
+probed_short number (Some light) = probe_short number true light
+probed_short number None = probe_short number false zero_vec

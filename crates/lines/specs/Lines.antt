@@ -1,5 +1,5 @@
 -- The lines that `roomlight` prints, in ASCII: document 01, 'The room file and `roomlight`'. Counts are decimal, floats eight hexadecimal digits of their bits. Definitions only.
-use Rattle.std.specs.Prelude.{Bool, cond, List, [], ◌∷◌, ◌++◌, ℕ, Float, Option, Some, None}
+use Rattle.std.specs.Prelude.{Bool, true, false, cond, List, [], ◌∷◌, ◌++◌, ℕ, Float, Option, Some, None}
 use Rattle.std.specs.Float.{binary32}
 use Rattle.std.specs.Float.Ieee.{to_bits}
 use Rattle.text.specs.Digits.{hex_digits, decimal_digits}
@@ -86,10 +86,14 @@ worded_line number word light =
     ++ float_digits light.z
     ++ newline
 
--- a probe that sees the light, and one that is unseen, which has zeros for it
-abbrev pub probe_line : ℕ → Option Vec3 → List ℕ
-probe_line number (Some light) = worded_line number seen_word light
-probe_line number None = worded_line number unseen_word zero_vec
+-- `seen` or `unseen`, and the reading's light, whichever of them it is
+abbrev pub probe_line : ℕ → Bool → Vec3 → List ℕ
+probe_line number seen light = worded_line number (cond seen seen_word unseen_word) light
+
+-- a probe by the light that is seen there; an unseen one has zeros for it
+abbrev pub probed_line : ℕ → Option Vec3 → List ℕ
+probed_line number (Some light) = probe_line number true light
+probed_line number None = probe_line number false zero_vec
 
 -- `refused 5`
 unfoldable pub refused_line : ℕ → List ℕ

@@ -1,19 +1,27 @@
 // A line put together from left to right.
-use arrayvec::ArrayVec;
 use std::marker::Model;
 
 // A line of text: up to 64 bytes, its newline among them.
-#[derive(Drop)]
+#[derive(Clone, Copy)]
 pub struct Line {
-    bytes: ArrayVec<u8, 64>,
+    bytes: [u8; 64],
+    count: usize,
 }
 
+// The bytes after the line's are zero, so that two lines of one text are one value.
 impl Model for Line {
-    ghost use Rattle.std.specs.Prelude.{ℕ, List};
+    ghost use Rattle.std.specs.Prelude.{ℕ, List, ◌++◌, ◌-◌, length, take, replicate};
+    ghost use Rattle.text.specs.Held.{Held};
 
     ghost Value = { List ℕ };
 
-    ghost view = { λ l. l.bytes.items };
+    ghost view = { λ l. take l.count l.bytes };
+
+    ghost invariant = { λ l. Held 64 l.bytes l.count };
+
+    ghost inverse = { λ text. record { bytes = text ++ replicate (64 - length text) 0; count = length text } };
+
+    ghost inverse_ok = { λ l h i. record { bytes = h.zeros i; count = h.counted i } };
 }
 
 impl Line {
@@ -26,7 +34,7 @@ impl Line {
         ensures text { result.now ≡ self.now }
         ensures fits { length result.now ≤ 64 }
     {
-        self.bytes.as_slice()
+        &self.bytes[..self.count]
     }
 
     // An empty line.
@@ -34,17 +42,23 @@ impl Line {
         ensures { result ≡ [] }
     {
         Line {
-            bytes: ArrayVec::new(),
+            bytes: [0; 64],
+            count: 0,
         }
     }
 
     // This line and the text s.
-    pub(crate) fn with(mut self, s: &[u8]) -> Line
+    pub(crate) fn with(self, s: &[u8]) -> Line
         requires { length self + length s.now ≤ 64 }
         ensures { result ≡ self ++ s.now }
     {
-        self.bytes.try_extend_from_slice(s).unwrap();
-        self
+        let mut bytes = self.bytes;
+        let count = self.count;
+        text::put(&mut bytes, count, s);
+        Line {
+            bytes,
+            count: count + s.len(),
+        }
     }
 
     // This line and the decimal digits of n.

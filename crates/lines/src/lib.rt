@@ -7,4 +7,4 @@ mod joining;
 mod made;
 
 pub use joining::Line;
-pub use made::{bounces, counts, probe, refused};
+pub use made::{bounces, counts, probe, probed, refused};

@@ -1,6 +1,6 @@
 // The four lines of a report.
 ghost use Rattle.std.specs.Prelude.{◌≡◌, ◌≤◌, length};
-ghost use Rattle.lines.specs.Lines.{counts_line, bounces_line, worded_line, probe_line, refused_line};
+ghost use Rattle.lines.specs.Lines.{counts_line, bounces_line, worded_line, probe_line, probed_line, refused_line};
 
 use crate::Line;
 use vector::Vec3;
@@ -34,13 +34,24 @@ pub fn bounces(bounces: u32, change: f32, settled: bool) -> Line
     }
 }
 
-// The reading at a probe: its number, and the light where it is seen; zeros stand where it is not.
-pub fn probe(number: u32, seen: Option<Vec3>) -> Line
-    ensures { result ≡ probe_line number seen }
+// The reading at a probe: its number, whether light is seen there, and the light.
+pub fn probe(number: u32, seen: bool, light: Vec3) -> Line
+    ensures { result ≡ probe_line number seen light }
+{
+    if seen {
+        worded(number, b" seen", light)
+    } else {
+        worded(number, b" unseen", light)
+    }
+}
+
+// The same of a probe by the light that is seen there; zeros stand where none is.
+pub fn probed(number: u32, seen: Option<Vec3>) -> Line
+    ensures { result ≡ probed_line number seen }
 {
     match seen {
-        Some(light) => worded(number, b" seen", light),
-        None => worded(number, b" unseen", Vec3::zero()),
+        Some(light) => probe(number, true, light),
+        None => probe(number, false, Vec3::zero()),
     }
 }
 

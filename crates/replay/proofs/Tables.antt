@@ -1,9 +1,7 @@
 -- Words put into a table, and shown of it. Assumes nothing.
-use Rattle.std.proofs.Common.{◌≡◌, ℕ, suc, ◌+◌, ◌-◌, ◌<◌, ◌≤◌, List, [], ◌∷◌, length, get_or, take, drop, map, min, refl, zero-add, arith}
-use Rattle.std.proofs.Common.{◌++◌, replicate}
-use Rattle.std.proofs.lemmas.List.{map-id, drop-replicate, length-replicate}
+use Rattle.std.proofs.Common.{◌≡◌, ℕ, suc, ◌+◌, ◌-◌, ◌<◌, ◌≤◌, List, [], ◌∷◌, length, get_or, take, drop, map, min, refl, arith}
 use Rattle.std.proofs.lemmas.Grind.{common_steps}
-use Rattle.std.proofs.lemmas.List.Edits.{sets, sets-eq}
+use Rattle.std.proofs.lemmas.List.Edits.{sets}
 use Rattle.std.proofs.Math.ListN.{set}
 use Rattle.std.proofs.Math.Seq.{set_out}
 use Rattle.replay.specs.Words.{with}
@@ -17,14 +15,6 @@ sets_none l i (x ∷ xs) h = rw (set_out l i x (omega arith)) (sets_none l (suc 
 pub sets_next : {X : Type 0} (f : ℕ → X) (l : List X) (at k n : ℕ) (words : List ℕ) → k < length (take n words)
     → sets (set l (at + k) (f (get_or (take n words) k 0))) (at + (k + 1)) (map f (drop (k + 1) words)) ≡ sets l (at + k) (map f (drop k words))
 sets_next f l at k n words h = grind (arith, common_steps)
-
--- words put into zeros from the first on
-pub padded : (n : ℕ) (words : List ℕ) → length words ≤ n → sets (replicate n 0) 0 (map (λ w. w) words) ≡ words ++ replicate (n - length words) 0
-padded n words h =
-    let zeros : List ℕ = replicate n 0 in
-    let fits : 0 + length words ≤ length zeros = rw length-replicate (omega arith) in
-    let e : sets zeros 0 words ≡ words ++ drop (0 + length words) zeros = sets-eq words zeros 0 fits in
-    rw (map-id words, e, zero-add (length words), drop-replicate) refl
 
 -- one more word is shown
 pub shown_next : {X : Type 0} (f : X → ℕ) (xs : List X) (i : ℕ) (x : X) → i < length xs → length xs ≤ 16 → x ≡ get_or xs i x

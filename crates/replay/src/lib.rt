@@ -13,4 +13,4 @@ mod words;
 pub use line::{Line, Lines};
 pub use replaying::{Replay, print_answer, print_table, run};
 pub use table::{Word, lent, lent_mut, part, put, put_at, shown, shown_at};
-pub use words::{Words, counted, full, refused, short, told, vec};
+pub use words::{Words, counted, full, refusal_word, refused, short, told, vec};

@@ -1,6 +1,7 @@
 // Lines, their names and their words.
 ghost use Rattle.std.specs.Prelude.{◌≡◌, ◌==◌, position, MatchOption};
 ghost use Rattle.replay.specs.Lines.{line_length as Lines·line_length, name_of as Lines·name_of, words_after, words_in as Lines·words_in, words_of as Lines·words_of};
+ghost use Rattle.replay.specs.Words.{none};
 
 use crate::Words;
 
@@ -54,6 +55,16 @@ impl<'a> Line<'a> {
         let given = words_of(&line[name.len()..])?;
         Some(Line { name, given })
     }
+
+    // What is left of a line whose words can't be read: its name, and no words.
+    pub fn unread(line: &'a [u8]) -> Line<'a>
+        ensures { (result.name.now ≡ Lines·name_of line.now) × (result.given ≡ none) }
+    {
+        Line {
+            name: name_of(line),
+            given: Words::none(),
+        }
+    }
 }
 
 // The bytes before the first space; none where there is no space.
@@ -89,7 +100,7 @@ fn words_in(s: &[u8]) -> Option<Words>
             break;
         }
         let digits = rest.strip_prefix(b" ")?;
-        words = words.with(text::word(digits)?);
+        words = words.with(text::word(digits, 0)?);
         rest = &digits[8..];
     }
     rest.is_empty().then_some(words)

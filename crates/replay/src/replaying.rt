@@ -1,10 +1,9 @@
 // Standard input replayed line by line.
 use crate::{Line, Lines, Word, Words, shown};
 use std::io;
-use std::io::{BufWriter, Read, Write};
 
 // Of a longer input no more bytes are read.
-const MAX_TEXT: u64 = 524288;
+const MAX_TEXT: usize = 524288;
 
 // What a program replays: it keeps what lines store, and answers those that ask.
 // Kept: a trait and no closure, since what calls a closure has a `requires`, and nothing public has one.
@@ -16,45 +15,48 @@ pub trait Replay {
     fn answer(&mut self, line: &Line<'_>) -> Option<Words>;
 
     // Prints the answer to a line that stores nothing.
-    fn print(&mut self, out: &mut impl Write, line: &Line<'_>) -> io::Result<()> {
-        print_answer(out, self.answer(line))
+    fn print(&mut self, rt: &impl Print, line: &Line<'_>) -> io::Result<()> {
+        print_answer(rt, self.answer(line))
     }
 }
 
-// Stores or answers each line of standard input, and prints `unread` for what is no line.
-pub fn run(rt: &(impl Input + Print + Alloc), replayed: &mut impl Replay) -> io::Result<()> {
-    let mut text = Vec::new(rt.alloc());
-    rt.reader().take(MAX_TEXT).read_to_end(&mut text)?;
-    let mut out = BufWriter::new(rt.alloc(), io::writer(rt))?;
-    for bytes in Lines(&text) {
-        match Line::of(bytes) {
-            None => print_answer(&mut out, None)?,
-            Some(line) if replayed.store(&line) => {}
-            Some(line) => replayed.print(&mut out, &line)?,
+// Stores or answers each line of standard input. A line whose words can't be read has none.
+// Kept: a text on the stack and a line written at a time, since the heap could fail, and whoever reads
+// has each answer as it is made.
+pub fn run(rt: &(impl Input + Print), replayed: &mut impl Replay) -> io::Result<()> {
+    let mut text = [0u8; MAX_TEXT];
+    let n = input::read_full(rt, &mut text)?;
+    for bytes in Lines(&text[..n]) {
+        let line = match Line::of(bytes) {
+            Some(line) => line,
+            None => Line::unread(bytes),
+        };
+        if !replayed.store(&line) {
+            replayed.print(rt, &line)?;
         }
     }
-    out.flush()
+    Ok(())
 }
 
 // Prints the words of an answer on a line, or `unread` where there is none.
-pub fn print_answer(out: &mut impl Write, answer: Option<Words>) -> io::Result<()> {
+pub fn print_answer(rt: &impl Print, answer: Option<Words>) -> io::Result<()> {
     match answer {
-        Some(words) => writeln!(out, "{words}"),
-        None => writeln!(out, "unread"),
+        Some(words) => println!(rt; "{words}"),
+        None => println!(rt; "unread"),
     }
 }
 
 // Prints what a table holds from place `at` on, 16 words to a line; the last is the one with the last
 // place that is lent.
 pub fn print_table<W: Word>(
-    out: &mut impl Write,
+    rt: &impl Print,
     table: &[W],
     at: usize,
     lent: usize,
 ) -> io::Result<()> {
     let end = lent.min(table.len());
     for from in (at..end).step_by(16) {
-        writeln!(out, "{}", shown(table, from))?;
+        println!(rt; "{}", shown(table, from))?;
     }
     Ok(())
 }

@@ -6,26 +6,33 @@ ghost use Rattle.accept.specs.Refusal.{number_of};
 ghost use Rattle.replay.specs.Vectors.{vector_of};
 ghost use Rattle.replay.specs.Words.{answered, counted, none, told, with as Words·with};
 
-use crate::put_at;
 use accept::Refusal;
-use arrayvec::ArrayVec;
 use float::of_bits;
 use std::fmt;
 use std::marker::Model;
 use vector::Vec3;
 
 // Up to 16 words, the operands or the result of a case. They are shown with a space between two.
-#[derive(Drop)]
+#[derive(Clone, Copy)]
 pub struct Words {
-    words: ArrayVec<u32, 16>,
+    words: [u32; 16],
+    count: usize,
 }
 
+// A place that no word stands at is 0, so that the words tell all places.
 impl Model for Words {
-    ghost use Rattle.std.specs.Prelude.{ℕ, List};
+    ghost use Rattle.std.specs.Prelude.{ℕ, List, ◌++◌, ◌-◌, length, take, replicate};
+    ghost use Rattle.text.specs.Held.{Held};
 
     ghost Value = { List ℕ };
 
-    ghost view = { λ w. w.words.items };
+    ghost view = { λ w. take w.count w.words };
+
+    ghost invariant = { λ w. Held 16 w.words w.count };
+
+    ghost inverse = { λ words. record { words = words ++ replicate (16 - length words) 0; count = length words } };
+
+    ghost inverse_ok = { λ w h i. record { words = h.zeros i; count = h.counted i } };
 }
 
 impl Words {
@@ -37,7 +44,8 @@ impl Words {
         ensures { result ≡ none }
     {
         Words {
-            words: ArrayVec::new(),
+            words: [0; 16],
+            count: 0,
         }
     }
 
@@ -52,7 +60,7 @@ impl Words {
     pub fn len(&self) -> usize
         ensures { result ≡ length self.now }
     {
-        self.words.len()
+        self.count
     }
 
     // The words.
@@ -60,17 +68,23 @@ impl Words {
         ensures words { result.now ≡ self.now }
         ensures fits { length result.now ≤ 16 }
     {
-        self.words.as_slice()
+        &self.words[..self.count]
     }
 
     // These words and one more; unchanged where there are 16.
-    pub fn with(mut self, word: u32) -> Words
+    pub fn with(self, word: u32) -> Words
         ensures { result ≡ Words·with self word }
     {
-        if !self.words.is_full() {
-            self.words.push(word);
+        let at = self.count;
+        if at >= 16 {
+            return self;
         }
-        self
+        let mut words = self.words;
+        words[at] = word;
+        Words {
+            words,
+            count: at + 1,
+        }
     }
 
     // These words and a float's bits, 7FC00000 for NaN.
@@ -91,16 +105,14 @@ impl Words {
     pub fn padded(&self) -> [u32; 16]
         ensures { result ≡ self.now ++ replicate (16 - length self.now) 0 }
     {
-        let mut all = [0; 16];
-        put_at(&mut all, 0, self.as_slice());
-        all
+        self.words
     }
 }
 
 impl fmt::Display for Words {
     fn fmt<W: fmt::Write>(&self, f: &mut fmt::Formatter<W>) -> fmt::Result {
         let mut between = "";
-        for word in self.words.iter() {
+        for word in self.as_slice() {
             write!(f, "{between}{word:08X}")?;
             between = " ";
         }
@@ -108,8 +120,15 @@ impl fmt::Display for Words {
     }
 }
 
-// A refusal's number alone.
-pub fn refused(refusal: Refusal) -> Words
+// A refusal's number alone; 0 starts every other answer.
+pub fn refused(number: u32) -> Words
+    ensures { result ≡ Words·with none number }
+{
+    Words::none().with(number)
+}
+
+// The number of this refusal alone.
+pub fn refusal_word(refusal: Refusal) -> Words
     ensures { result ≡ Words·with none (number_of refusal) }
 {
     Words::none().with(u32::from(refusal))
@@ -126,7 +145,7 @@ pub fn full(row: usize) -> Words
 pub fn told(answer: Result<Words, Refusal>) -> Words
     ensures { result ≡ told answer }
 {
-    answer.unwrap_or_else(|refusal| refused(refusal))
+    answer.unwrap_or_else(|refusal| refusal_word(refusal))
 }
 
 // 0 and how many were counted, or the refusal's number alone.

@@ -48,11 +48,11 @@ impl Replay for Calls {
     }
 
     // Shows what the tables hold, or prints a call's answer.
-    fn print(&mut self, out: &mut impl io::Write, line: &Line<'_>) -> io::Result<()> {
+    fn print(&mut self, rt: &impl Print, line: &Line<'_>) -> io::Result<()> {
         match line.name {
-            b"show_clusters" => show::clusters(out, &self.stored, line.given.padded()[0] as usize),
-            b"show_rows" => show::rows(out, &self.stored, line.given.padded()[0] as usize),
-            _ => print_answer(out, self.answer(line)),
+            b"show_clusters" => show::clusters(rt, &self.stored, line.given.padded()[0] as usize),
+            b"show_rows" => show::rows(rt, &self.stored, line.given.padded()[0] as usize),
+            _ => print_answer(rt, self.answer(line)),
         }
     }
 }

@@ -44,10 +44,10 @@ impl Replay for Calls {
     }
 
     // Shows what the tables hold, or prints a call's answer.
-    fn print(&mut self, out: &mut impl io::Write, line: &Line<'_>) -> io::Result<()> {
+    fn print(&mut self, rt: &impl Print, line: &Line<'_>) -> io::Result<()> {
         match line.name {
-            b"show" => show::tables(out, &self.stored, line),
-            _ => print_answer(out, self.answer(line)),
+            b"show" => show::tables(rt, &self.stored, line),
+            _ => print_answer(rt, self.answer(line)),
         }
     }
 }

@@ -6,17 +6,17 @@ use stored_placement::Stored;
 
 // Prints the tables. The line's words: before which surfel the columns end, and the places from which
 // the two tables of scratch are printed.
-pub fn tables(out: &mut impl io::Write, s: &Stored, line: &Line<'_>) -> io::Result<()> {
+pub fn tables(rt: &impl Print, s: &Stored, line: &Line<'_>) -> io::Result<()> {
     let w = line.given.padded().map(|w| w as usize);
     let lent = s.lent;
     let (floats, vectors) = (w[0], 3 * w[0]);
-    print_table(out, &s.columns.p, 0, vectors.min(lent.p))?;
-    print_table(out, &s.columns.n, 0, vectors.min(lent.n))?;
-    print_table(out, &s.columns.albedo, 0, vectors.min(lent.albedo))?;
-    print_table(out, &s.columns.area, 0, floats.min(lent.area))?;
-    print_table(out, &s.light.direct, 0, vectors.min(lent.direct))?;
-    print_table(out, &s.light.irr, 0, vectors.min(lent.irr))?;
-    print_table(out, &s.light.rad, 0, vectors.min(lent.rad))?;
-    print_table(out, &s.scratch.head, w[1], lent.head)?;
-    print_table(out, &s.scratch.next, w[2], lent.next)
+    print_table(rt, &s.columns.p, 0, vectors.min(lent.p))?;
+    print_table(rt, &s.columns.n, 0, vectors.min(lent.n))?;
+    print_table(rt, &s.columns.albedo, 0, vectors.min(lent.albedo))?;
+    print_table(rt, &s.columns.area, 0, floats.min(lent.area))?;
+    print_table(rt, &s.light.direct, 0, vectors.min(lent.direct))?;
+    print_table(rt, &s.light.irr, 0, vectors.min(lent.irr))?;
+    print_table(rt, &s.light.rad, 0, vectors.min(lent.rad))?;
+    print_table(rt, &s.scratch.head, w[1], lent.head)?;
+    print_table(rt, &s.scratch.next, w[2], lent.next)
 }

@@ -9,23 +9,18 @@ use std::io;
 
 // The file is zeros at first, every place of a column holds zero, and all places are lent.
 fn main(rt: HostRuntime) -> io::Result<()> {
-    let file = vec![in rt.alloc(); 0; 4096]?;
-    let columns = Columns::marked(0);
-    let lengths = Lent::from([64; 16]);
-    replay::run(
-        &rt,
-        &mut Readings {
-            file,
-            columns,
-            lengths,
-        },
-    )
+    let mut readings = Readings {
+        file: [0; 4096],
+        columns: Columns::marked(0),
+        lengths: Lent::from([64; 16]),
+    };
+    replay::run(&rt, &mut readings)
 }
 
 // Readings of the file: what the columns hold, and how many places of each a reading is lent.
 #[derive(Drop)]
 struct Readings {
-    file: Vec<u8>,
+    file: [u8; 4096],
     columns: Columns,
     lengths: Lent,
 }
@@ -37,7 +32,7 @@ impl Replay for Readings {
         match line.name {
             b"mark" => self.columns = Columns::marked(w[0]),
             b"lend" => self.lengths = Lent::from(w),
-            _ => return stored_file::store(self.file.as_mut_slice(), line),
+            _ => return stored_file::store(&mut self.file, line),
         }
         true
     }
@@ -48,7 +43,7 @@ impl Replay for Readings {
         let w = line.given.padded();
         match line.name {
             b"read" => {
-                let file = lent(self.file.as_slice(), w[0] as usize);
+                let file = lent(&self.file, w[0] as usize);
                 Some(self.columns.read(file, self.lengths))
             }
             b"show" => self.columns.shown(w[0], w[1] as usize),

@@ -1,18 +1,13 @@
 // Reports of the file, and what they answer.
-use replay::{Words, counted, lent, lent_mut, refused};
+use replay::{Words, counted, lent, lent_mut, print_answer, refusal_word};
 use std::io;
 
 // Prints the report of the first so many bytes of the file, more than there are meaning all; or the
 // number that refuses it.
-pub fn room(
-    out: &mut impl io::Write,
-    file: &[u8],
-    length: usize,
-    text: &mut [u8],
-) -> io::Result<()> {
+pub fn room(rt: &impl Print, file: &[u8], length: usize, text: &mut [u8]) -> io::Result<()> {
     match report::room_report(lent(file, length), text) {
-        Ok(end) => out.write_all(lent(text, end)),
-        Err(refusal) => writeln!(out, "{}", refused(refusal)),
+        Ok(end) => rt.write_all(lent(text, end)),
+        Err(refusal) => print_answer(rt, Some(refusal_word(refusal))),
     }
 }
 

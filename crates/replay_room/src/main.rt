@@ -10,50 +10,42 @@ use std::io;
 
 // The file and the text of its report are zeros at first.
 fn main(rt: HostRuntime) -> io::Result<()> {
-    let file = vec![in rt.alloc(); 0; 65600]?;
-    let report = vec![in rt.alloc(); 0; 131072]?;
-    replay::run(&rt, &mut Reports { file, report })
+    let mut reports = Reports {
+        file: [0; 65600],
+        report: [0; 131072],
+    };
+    replay::run(&rt, &mut reports)
 }
 
 // Reports of the file, written into a text.
 #[derive(Drop)]
 struct Reports {
-    file: Vec<u8>,
-    report: Vec<u8>,
+    file: [u8; 65600],
+    report: [u8; 131072],
 }
 
 impl Replay for Reports {
     fn store(&mut self, line: &Line<'_>) -> bool {
-        stored_file::store(self.file.as_mut_slice(), line)
+        stored_file::store(&mut self.file, line)
     }
 
     fn answer(&mut self, line: &Line<'_>) -> Option<Words> {
         let w = line.given.padded();
         let (length, space) = (w[0] as usize, w[1] as usize);
         match line.name {
-            b"short" => Some(ask::short(
-                self.file.as_slice(),
-                length,
-                self.report.as_mut_slice(),
-                space,
-            )),
+            b"short" => Some(ask::short(&self.file, length, &mut self.report, space)),
             _ => None,
         }
     }
 
     // Prints a report, or an answer.
-    fn print(&mut self, out: &mut impl io::Write, line: &Line<'_>) -> io::Result<()> {
+    fn print(&mut self, rt: &impl Print, line: &Line<'_>) -> io::Result<()> {
         match line.name {
             b"room" => {
                 let length = line.given.padded()[0] as usize;
-                ask::room(
-                    out,
-                    self.file.as_slice(),
-                    length,
-                    self.report.as_mut_slice(),
-                )
+                ask::room(rt, &self.file, length, &mut self.report)
             }
-            _ => print_answer(out, self.answer(line)),
+            _ => print_answer(rt, self.answer(line)),
         }
     }
 }

@@ -21,7 +21,7 @@ use Rattle.file.specs.Blocks.{counts_in}
 use Rattle.file.specs.Rooms.{box_of_file}
 use Rattle.file.proofs.Accepted.{passed, file_ends}
 use Rattle.lines.specs.Lines.{refused_line}
-use Rattle.lines.proofs.Widths.{counts_width, bounces_width, probe_width, refused_width}
+use Rattle.lines.proofs.Widths.{counts_width, bounces_width, probed_width, refused_width}
 use Rattle.report.specs.Light.{grid_fits, run_of_file, reading_of_file}
 use Rattle.report.specs.Report.{reading_line, head_lines, lines_of, report, report_check, max_report}
 use Rattle.report.proofs.Texts.{line_at, rows_within, lines_read, reading_line_lem}
@@ -56,7 +56,7 @@ lines_fit b e =
     let q = run_of_file b in
     let h = head_width (counts_in b) q.bounces q.last in
     let w = rows_within (λ i. reading_line i (reading_of_file b i)) 45 (counts_in b).probes
-    (λ i k. let r = reading_of_file b i in rw (← reading_line_lem i r) (probe_width i (cond (eqb (seen_number r) 1) (Some (seen_light r)) None) (omega arith))) in
+    (λ i k. let r = reading_of_file b i in rw (← reading_line_lem i r) (probed_width i (cond (eqb (seen_number r) 1) (Some (seen_light r)) None) (omega arith))) in
     rw length-append (omega arith)
 
 -- a report is never longer than its need

@@ -16,8 +16,8 @@ use Rattle.vector.proofs.Stored.{sets_front, sets_front_append, sets_part}
 use Rattle.surfel.specs.Answers.{seen_number, seen_light}
 use Rattle.surfel.specs.declared.Reading.{Reading}
 use Rattle.surfel.specs.declared.Reading.TheVariants.{Seen, Unseen}
-use Rattle.lines.specs.Lines.{probe_line}
-use Rattle.lines.proofs.Widths.{probe_width}
+use Rattle.lines.specs.Lines.{probed_line}
+use Rattle.lines.proofs.Widths.{probed_width}
 use Rattle.report.specs.Needs.{seen_in}
 use mathlib.Core.Bool.{cond}
 use Rattle.std.specs.Prelude.{Some, None}
@@ -49,7 +49,7 @@ more_stored text x t {d} {s} {k} p f h q u =
 
 -- the line of probe i, by what was written of the readings
 abbrev pub line_at : List ℕ → List Float → ℕ → List ℕ
-line_at seen light i = probe_line i (seen_in seen light i)
+line_at seen light i = probed_line i (seen_in seen light i)
 
 -- rows of at most w elements
 pub rows_within : {A : Type 0} (f : ℕ → List A) (w n : ℕ) → ((i : ℕ) → i < n → length (f i) ≤ w) → length (rows f n) ≤ w * n
@@ -60,10 +60,10 @@ rows_within f w (suc n) h =
 
 -- n lines take at most 45 bytes each
 pub lines_within : (seen : List ℕ) (light : List Float) (n : ℕ) → n ≤ 9999 → length (rows (line_at seen light) n) ≤ 45 * n
-lines_within seen light n h = rows_within (line_at seen light) 45 n (λ i k. probe_width i (seen_in seen light i) (omega arith))
+lines_within seen light n h = rows_within (line_at seen light) 45 n (λ i k. probed_width i (seen_in seen light i) (omega arith))
 
 -- what is written of a reading gives its line
-pub reading_line_lem : (i : ℕ) (r : Reading) → probe_line i (cond (eqb (seen_number r) 1) (Some (seen_light r)) None) ≡ reading_line i r
+pub reading_line_lem : (i : ℕ) (r : Reading) → probed_line i (cond (eqb (seen_number r) 1) (Some (seen_light r)) None) ≡ reading_line i r
 reading_line_lem i (Seen light) = refl
 reading_line_lem i Unseen = refl
 

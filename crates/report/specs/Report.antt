@@ -1,10 +1,11 @@
 -- What `roomlight` prints of a file: document 01, 'The room file and `roomlight`'. Definitions only.
-use Rattle.std.specs.Prelude.{List, [], ◌∷◌, ◌++◌, ℕ, leb, Float, length, drop, Result, Ok, Err, Some, None}
+use Rattle.std.specs.Prelude.{true, false, List, [], ◌∷◌, ◌++◌, ℕ, leb, Float, length, drop, Result, Ok, Err}
 use Rattle.accept.specs.Limits.{max_program_file}
 use Rattle.accept.specs.Refusal.{number_of, checked, outcome}
 use Rattle.accept.specs.declared.refusal.Refusal.{Refusal}
 use Rattle.accept.specs.declared.refusal.Refusal.TheVariants as refusal
 use Rattle.vector.specs.Flat.{rows}
+use Rattle.vector.specs.Vector.{zero_vec}
 use Rattle.surfel.specs.declared.Reading.{Reading}
 use Rattle.surfel.specs.declared.Reading.TheVariants.{Seen, Unseen}
 use Rattle.solve.specs.Runs.{settled}
@@ -17,8 +18,8 @@ use Rattle.report.specs.Light.{run_of_file, grid_fits, reading_of_file}
 
 -- the line of a probe, by its reading; an unseen one has zeros for light
 abbrev pub reading_line : ℕ → Reading → List ℕ
-reading_line i (Seen light) = probe_line i (Some light)
-reading_line i Unseen = probe_line i None
+reading_line i (Seen light) = probe_line i true light
+reading_line i Unseen = probe_line i false zero_vec
 
 -- the lines of the counts and of a run that made these bounces and ended with this change
 unfoldable pub head_lines : Counts → ℕ → Float → List ℕ

@@ -3,7 +3,7 @@ ghost use Rattle.std.specs.Prelude.{◌≡◌, ◌*◌, ◌<◌, ◌≤◌, leng
 ghost use Rattle.std.proofs.lemmas.List.Edits.{sets};
 ghost use Rattle.accept.specs.Limits.{max_bounces};
 ghost use Rattle.vector.specs.Flat.{rows};
-ghost use Rattle.lines.specs.Lines.{probe_line};
+ghost use Rattle.lines.specs.Lines.{probed_line};
 ghost use Rattle.report.specs.Report.{head_lines};
 ghost use Rattle.report.specs.Needs.{seen_in as Needs·seen_in};
 
@@ -40,12 +40,12 @@ pub fn put_probes(text: &mut [u8], seen: &[u32], light: &[f32]) -> usize
     requires few { length seen.now ≤ 9999 }
     requires room { 45 * length seen.now ≤ length text.old }
     ensures text_after { text.new
-        ≡ sets text.old 0 (rows (λ i. probe_line i (Needs·seen_in seen.now light.now i)) (length seen.now)) }
-    ensures value { result ≡ length (rows (λ i. probe_line i (Needs·seen_in seen.now light.now i)) (length seen.now)) }
+        ≡ sets text.old 0 (rows (λ i. probed_line i (Needs·seen_in seen.now light.now i)) (length seen.now)) }
+    ensures value { result ≡ length (rows (λ i. probed_line i (Needs·seen_in seen.now light.now i)) (length seen.now)) }
 {
     let mut end = 0;
     for i in 0..seen.len() {
-        let line = lines::probe(i as u32, seen_in(seen, light, i));
+        let line = lines::probed(i as u32, seen_in(seen, light, i));
         end += put_line(&mut text[end..], line);
     }
     end

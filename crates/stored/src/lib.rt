@@ -10,7 +10,7 @@ use tables::Scene;
 
 // Three counts, and places for 16 primitives, 8 planes and 16 objects.
 // Kept: counts beside tables, since a case may count more than its tables hold, or fewer.
-#[derive(Drop)]
+#[derive(Clone, Copy)]
 pub struct Stored {
     pub prims: usize,
     pub planes: usize,

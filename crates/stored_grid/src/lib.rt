@@ -14,7 +14,7 @@ use lent::space_of;
 use replay::{Line, Words, put, put_at, shown_at};
 
 // A box, places for 32 surfels, 520 starts, 32 items, a list of 64, 8 probes and their readings.
-#[derive(Drop)]
+#[derive(Clone, Copy)]
 pub struct Stored {
     pub cells: Cells,
     pub surfels: Surfels,
@@ -27,7 +27,7 @@ pub struct Stored {
 }
 
 // A grid: its box, where the points of each cell begin, and the points.
-#[derive(Drop)]
+#[derive(Clone, Copy)]
 pub struct Cells {
     pub space: Space,
     pub starts: [u32; 520],
@@ -35,7 +35,7 @@ pub struct Cells {
 }
 
 // Surfels: their points, their normals and their irradiance.
-#[derive(Drop)]
+#[derive(Clone, Copy)]
 pub struct Surfels {
     pub p: [f32; 96],
     pub normals: [f32; 96],

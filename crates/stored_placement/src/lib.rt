@@ -12,7 +12,7 @@ use replay::{Line, put};
 
 // Places for 16 materials, for 128 surfels and for scratch of 512 cells; and how many places of each table
 // a call is lent, those of the scene too.
-#[derive(Drop)]
+#[derive(Clone, Copy)]
 pub struct Stored {
     pub materials: [f32; 64],
     pub columns: Columns,
@@ -22,7 +22,7 @@ pub struct Stored {
 }
 
 // Columns of surfels: their points, their normals, their albedo and their areas.
-#[derive(Drop)]
+#[derive(Clone, Copy)]
 pub struct Columns {
     pub p: [f32; 384],
     pub n: [f32; 384],
@@ -31,7 +31,7 @@ pub struct Columns {
 }
 
 // The light of surfels: direct, arriving and leaving.
-#[derive(Drop)]
+#[derive(Clone, Copy)]
 pub struct Light {
     pub direct: [f32; 384],
     pub irr: [f32; 384],
@@ -39,7 +39,7 @@ pub struct Light {
 }
 
 // The scratch of placement: a place for each cell, and one for each surfel.
-#[derive(Drop)]
+#[derive(Clone, Copy)]
 pub struct Scratch {
     pub head: [u32; 512],
     pub next: [u32; 128],

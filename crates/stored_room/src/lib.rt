@@ -14,7 +14,7 @@ use replay::{Line, Words, put, shown_at};
 
 // Places for 12 surfels, 8 clusters, 32 members, 16 starts and 64 links; `light` is what a reset is
 // given.
-#[derive(Drop)]
+#[derive(Clone, Copy)]
 pub struct Stored {
     pub albedo: [f32; 36],
     pub area: [f32; 12],

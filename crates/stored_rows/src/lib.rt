@@ -12,7 +12,7 @@ pub use written::{Clusters, Members, Rows};
 
 // Places for 32 surfels, 32 clusters with 32 members in all, and rows with 160 links; and how many places
 // of each table the two calls are lent.
-#[derive(Drop)]
+#[derive(Clone, Copy)]
 pub struct Stored {
     pub surfels: Surfels,
     pub clusters: Clusters,
@@ -23,7 +23,7 @@ pub struct Stored {
 }
 
 // Surfels: their points, their normals and their areas.
-#[derive(Drop)]
+#[derive(Clone, Copy)]
 pub struct Surfels {
     pub p: [f32; 96],
     pub normals: [f32; 96],

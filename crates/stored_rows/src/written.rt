@@ -5,7 +5,7 @@ use float::of_bits;
 
 // Clusters: their centres, normals, areas and radii. A call for clusters writes them, and a call for
 // rows reads them.
-#[derive(Drop)]
+#[derive(Clone, Copy)]
 pub struct Clusters {
     pub p: [f32; 96],
     pub n: [f32; 96],
@@ -32,7 +32,7 @@ impl Clusters {
 
 // What else a call for clusters writes: the ranges of their members, the members, and its scratch,
 // `order` and `spare`.
-#[derive(Drop)]
+#[derive(Clone, Copy)]
 pub struct Members {
     pub first: [u32; 32],
     pub count: [u32; 32],
@@ -59,7 +59,7 @@ impl Members {
 }
 
 // Rows: what a call for rows writes. `link` and `weight` are its scratch.
-#[derive(Drop)]
+#[derive(Clone, Copy)]
 pub struct Rows {
     pub starts: [u32; 36],
     pub link_cluster: [u32; 160],

@@ -4,13 +4,13 @@ use mathlib.Core.Path.{◌≡◌, refl}
 use mathlib.Core.Bool.{Bool, true, false, cond}
 use mathlib.Core.List.{List, [], ◌∷◌, ◌++◌}
 use native.Mathlib.Omega.{arith}
-use native.Mathlib.Nat.{mod-eq_of_lt}
+use native.Mathlib.Nat.{mod-eq_of_lt, sub-zero, suc-sub-suc}
 use native.Mathlib.Numerals.{add-one}
 use lib.Dec.{ltb}
-use lib.ListN.{length, drop, set, length-append, length-set}
+use lib.ListN.{length, drop, set, replicate, length-append, length-set}
 use lib.Seq.{append_snoc, drop-cons, drop-set-lt, get_or-set_same}
 use borrow.Author.Tests.{ltb-true, lt-ltb}
-use Rattle.text.specs.Digits.{glyph, last_digits, decimal_within}
+use Rattle.text.specs.Digits.{glyph, last_digits, decimal_within, decimal_digits}
 
 -- there are as many as were asked for
 pub length_digits : (b k n : ℕ) → length (last_digits b k n) ≡ k
@@ -54,3 +54,15 @@ decimal_digits_lem (suc k) n = by (ltb n 10) refl (decimal_digits_lem k (n / 10)
         ≡ cond t (glyph n ∷ []) (decimal_within k (n / 10) ++ (glyph (n % 10) ∷ []))
     by true e h = rw (mod-eq_of_lt (ltb-true n 10 e))
     by false e h = rw (length-append, add-one, h)
+
+-- what is left of n zeros after the first k
+pub drop_replicate : (k n : ℕ) (a : ℕ) → k ≤ n → drop k (replicate n a) ≡ replicate (n - k) a
+drop_replicate zero n a h = rw sub-zero
+drop_replicate (suc k) zero a h = absurd (omega arith)
+drop_replicate (suc k) (suc n) a h = rw suc-sub-suc (drop_replicate k n a (omega arith))
+
+-- the array after `spell` has a number's digits in front, as many as it takes, and zeros after them
+pub numeral : (n count : ℕ) (l : List ℕ) → count ≡ length (decimal_digits n) → l ≡ last_digits 10 count n ++ drop count (replicate 10 0)
+    → l ≡ decimal_digits n ++ replicate (10 - length (decimal_digits n)) 0
+numeral n count l e h =
+    rw (h, e, decimal_digits_lem 10 n, drop_replicate (length (decimal_digits n)) 10 0 (decimal-length 10 n))

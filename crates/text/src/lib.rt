@@ -10,5 +10,5 @@ mod number;
 mod reading;
 
 pub use line::put;
-pub use number::{decimal, hex};
+pub use number::{Numeral, decimal, hex};
 pub use reading::word;

@@ -6,7 +6,42 @@ ghost use Rattle.std.specs.Prelude.{◌≤◌, ◌<◌, ◌≡◌, ◌++◌, len
 ghost use Rattle.text.specs.Digits.{last_digits, hex_digits, decimal_digits};
 ghost use Rattle.text.specs.Digits.{glyph as Digits·glyph};
 
-use arrayvec::ArrayVec;
+use std::marker::Model;
+
+// A number's decimal digits: up to ten bytes.
+#[derive(Clone, Copy)]
+pub struct Numeral {
+    digits: [u8; 10],
+    count: usize,
+}
+
+// The bytes after the digits are zero, so that two numerals of one number are one value.
+impl Model for Numeral {
+    ghost use Rattle.std.specs.Prelude.{ℕ, List, ◌++◌, ◌-◌, length, take, replicate};
+    ghost use Rattle.text.specs.Held.{Held};
+
+    ghost Value = { List ℕ };
+
+    ghost view = { λ l. take l.count l.digits };
+
+    ghost invariant = { λ l. Held 10 l.digits l.count };
+
+    ghost inverse = { λ text. record { digits = text ++ replicate (10 - length text) 0; count = length text } };
+
+    ghost inverse_ok = { λ l h i. record { digits = h.zeros i; count = h.counted i } };
+}
+
+impl Numeral {
+    ghost use Rattle.std.specs.Prelude.{◌≡◌, ◌≤◌, length};
+
+    // The digits.
+    pub fn as_slice(&self) -> &[u8]
+        ensures text { result.now ≡ self.now }
+        ensures fits { length result.now ≤ 10 }
+    {
+        &self.digits[..self.count]
+    }
+}
 
 // The eight hexadecimal digits of w in upper case, the most significant first.
 pub fn hex(w: u32) -> [u8; 8]
@@ -18,15 +53,13 @@ pub fn hex(w: u32) -> [u8; 8]
 }
 
 // The decimal digits of n, the most significant first, with no zero in front; 0 is one digit.
-pub fn decimal(n: u32) -> ArrayVec<u8, 10>
-    ensures { result.items ≡ decimal_digits n }
+pub fn decimal(n: u32) -> Numeral
+    ensures { result ≡ decimal_digits n }
 {
     let count = places(n);
     let mut digits = [0u8; 10];
     spell(n, 10, count, &mut digits);
-    let mut numeral = ArrayVec::from(digits);
-    numeral.truncate(count);
-    numeral
+    Numeral { digits, count }
 }
 
 // How many decimal digits n takes.

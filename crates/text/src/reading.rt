@@ -4,13 +4,13 @@
 ghost use Rattle.std.specs.Prelude.{◌≡◌};
 ghost use Rattle.text.specs.Words.{digit_of, word_at};
 
-// The word that the eight upper-case hexadecimal digits at the start of s spell; none where one of
+// The word that the eight upper-case hexadecimal digits from place `at` on spell; none where one of
 // the eight bytes is no such digit, and where s ends before the last of them.
-pub fn word(s: &[u8]) -> Option<u32>
-    ensures { result ≡ word_at s.now 0 }
+pub fn word(s: &[u8], at: usize) -> Option<u32>
+    ensures { result ≡ word_at s.now at }
 {
     let mut n = 0;
-    for b in s.get(..8)? {
+    for b in s.get(at..)?.get(..8)? {
         n = n * 16 + digit(*b)?;
     }
     Some(n)

@@ -1,16 +1,28 @@
 -- `text::word` meets its contract. The digits read so far, followed by those that are left, spell what all eight spell. Assumes nothing.
+use Prim.Native.Nat.{ℕ, ◌-◌, ◌≤◌}
 use mathlib.Core.Path.{◌≡◌, sym, ◌∙◌}
+use mathlib.Core.List.{List}
 use native.Mathlib.Omega.{arith}
-use lib.ListN.{length, get_or, drop_of_length-le}
+use lib.ListN.{length, take, drop, get_or, length-drop, drop_of_length-le}
+use lib.Seq.{take_all}
 use borrow.Author.Tests.{le-leb}
-use Rattle.text.specs.Words.{spelled}
+use Rattle.std.specs.List.{slice_range}
+use Rattle.text.specs.Words.{spelled, word_at}
+use Rattle.text.proofs.Laws.{word_from}
 use Rattle.text.proofs.Words.{digit_below, room, digit_read, none_read}
 use Rattle.text.proofs.reading.word.Goals as goal
 
+-- what eight bytes at the start of the text from a place on spell
+sliced : (s from : List ℕ) (at : ℕ) → from ≡ slice_range s at (length s) → 8 ≤ length from → spelled 0 (take 8 from) ≡ word_at s at
+sliced s from at e h =
+    let f : from ≡ drop at s = e ∙ take_all (length s - at) (drop at s) (simp length-drop (omega arith)) in
+    rw (word_from s at, ← f, le-leb 8 (length from) h)
+
 pub loop-b-init : goal.loop-b-init
 loop-b-init c =
+    let g = c.in_ok-get.ensures.lookup.0 in
     let h = c.in_ok-b-items.ensures.lookup.0 in
-    (omega (arith, h.3), omega arith, rw (h.2, le-leb 8 (length c.args.s.now) h.1))
+    (omega (arith, h.3), omega arith, rw h.2 (sliced c.args.s.now c.in_ok-get.field-0.now c.args.at g.2 h.1))
 
 pub overflow_mul-n : goal.overflow_mul-n
 overflow_mul-n c =

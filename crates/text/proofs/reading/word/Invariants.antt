@@ -4,4 +4,4 @@ use Rattle.text.proofs.Words.{ReadTo}
 use Rattle.text.proofs.reading.word.Given as goal
 
 abbrev pub invariant-loop-b : goal.invariant-loop-b
-invariant-loop-b l = ReadTo l.b-items (word_at l.s 0) l.n l.b-index
+invariant-loop-b l = ReadTo l.b-items (word_at l.s l.at) l.n l.b-index
