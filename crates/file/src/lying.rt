@@ -1,6 +1,6 @@
 // Columns that lie in a file: what the checks of numbers and floats read, and how a column is read
 // into a slice.
-ghost use Rattle.std.specs.Prelude.{◌≡◌, ◌<◌, ◌/◌};
+ghost use Rattle.std.specs.Prelude.{◌≡◌};
 ghost use Rattle.std.specs.Option.{option_map};
 ghost use Rattle.file.specs.Needs.{Inside, put_front};
 
@@ -49,9 +49,8 @@ impl<'a> Listed<f32> for Lying<'a> {
     fn item(self, k: usize) -> Option<f32> {
         let width = self.place.width;
         if k < width * self.place.count {
-            let entry = quotient(k, width);
-            let from = self.place.from + self.place.step * entry;
-            Some(of_bits(word(self.bytes, from + (k - width * entry))))
+            let entry = self.place.from + self.place.step * (k / width);
+            Some(of_bits(word(self.bytes, entry + k % width)))
         } else {
             None
         }
@@ -74,18 +73,5 @@ pub(crate) fn store<T: Copy, L: Listed<T>>(found: Option<L>, out: &mut [T])
             return;
         };
         *place = x;
-    }
-}
-
-// k divided by the width of a column: those of a room file, 1 and 3, take no division.
-#[inline(always)]
-fn quotient(k: usize, width: usize) -> usize
-    requires { 0 < width }
-    ensures { result ≡ k / width }
-{
-    match width {
-        1 => k,
-        3 => k / 3,
-        _ => k / width,
     }
 }

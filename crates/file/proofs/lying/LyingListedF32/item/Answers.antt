@@ -1,7 +1,7 @@
 -- Float k of a column is one of those of its entry, which lies in the file; past the last there is none. Assumes nothing.
 use mathlib.Core.List.{List}
-use mathlib.Core.Path.{◌≡◌, sym, ap, ◌∙◌}
-use Prim.Native.Nat.{ℕ, ◌+◌, ◌-◌, ◌*◌, ◌/◌, ◌%◌, ◌<◌}
+use mathlib.Core.Path.{sym, ap, ◌∙◌}
+use Prim.Native.Nat.{ℕ, ◌+◌, ◌*◌, ◌/◌, ◌%◌, ◌<◌}
 use native.Mathlib.Nat.{mod-lt, div-add-mod, div-lt_iff_lt-mul, mul_comm}
 use native.Mathlib.Omega.{arith}
 use lib.Ieee.{nan}
@@ -23,17 +23,8 @@ lies col k inside h =
     let e : k / col.width < col.count = (div-lt_iff_lt-mul {k = col.width} {x = k} {y = col.count} inside.some).1 (omega (arith, h, mul_comm col.width col.count)) in
     (e, m, omega (arith, m, inside.each (k / col.width) e))
 
--- what is left of k is its place in the entry
-left : (k w : ℕ) → k - w * (k / w) ≡ k % w
-left k w = omega (arith, div-add-mod k w)
-
-pub quotient-entry-requires : goal.quotient-entry-requires
-quotient-entry-requires c = c.args.self.inside.some
-
 pub word-requires : goal.word-requires
-word-requires c =
-    let s = c.args.self in
-    rw (c.quotient-entry.ensures, left c.args.k s.place.width) (lies s.place c.args.k s.inside c.if-k-width.true).2
+word-requires c = (lies c.args.self.place c.args.k c.args.self.inside c.if-k-width.true).2
 
 pub returns-then-k-width : goal.returns-then-k-width
 returns-then-k-width c =
@@ -41,7 +32,7 @@ returns-then-k-width c =
     let b = s.bytes.now in
     let k = c.args.k in
     let h = lies s.place k s.inside c.if-k-width.true in
-    ap Some (rw (c.of_bits.ensures, c.word.ensures, c.quotient-entry.ensures, left k s.place.width)
+    ap Some (rw (c.of_bits.ensures, c.word.ensures)
     (sym (float_at_lem b s.place (k / s.place.width) (k % s.place.width) h.0 h.1) ∙ ap (float_at (floats_of b s.place)) (div-add-mod k s.place.width)))
     ∙ sym (slice_get-get_or (floats_of b s.place) k nan (omega (arith, c.if-k-width.true, floats_length b s.place)))
 
