@@ -80,6 +80,7 @@ impl Blocks<'_> {
     }
 
     // The column that stands there, none where it does not lie in the file.
+    #[inline(always)]
     fn found(&self, place: Column) -> Option<Lying<'_>>
         ensures numbers { option_map (λ l. numbers_of l.bytes.now l.place) result
             ≡ cond (Columns·inside self.now.bytes.now place) (Some (numbers_of self.now.bytes.now place)) None }

@@ -109,6 +109,7 @@ impl RoomFile<'_> {
     }
 
     // Whether each float of a column is from lo to hi.
+    #[inline(always)]
     fn column_within(&self, place: Column, lo: f32, hi: f32) -> bool
         requires { Inside self.now place }
         ensures { result ≡ floats_within (floats_of self.now place) place.count place.width lo hi }

@@ -1,5 +1,5 @@
 -- What `near` answers in each of its cases: that the list holds the numbers is tested after all else. Assumes nothing.
-use mathlib.Core.Bool.{Bool, true}
+use mathlib.Core.Bool.{Bool, true, and-eq-true_iff}
 use mathlib.Core.List.{List, [], ◌∷◌, ◌++◌}
 use mathlib.Core.Path.{◌≡◌}
 use Prim.Native.Nat.{ℕ, ◌≤◌, ◌<◌}
@@ -9,6 +9,9 @@ use lib.ListN.{length}
 use lib.Seq.{sets}
 use Rattle.std.specs.Prelude.{Ok, Err, Result}
 use Rattle.vector.specs.declared.Vec3.{Vec3}
+use Rattle.accept.specs.Limits.{max_surfels}
+use Rattle.accept.specs.Tables.{at_most}
+use Rattle.accept.proofs.Bounded.{at_most-le}
 use Rattle.accept.specs.Refusal.{checked}
 use Rattle.accept.specs.declared.refusal.Refusal.{Refusal}
 use Rattle.accept.specs.declared.refusal.Refusal.TheVariants.{Length}
@@ -17,7 +20,8 @@ use Rattle.grid.specs.Answers.{near_own, near_answer}
 use Rattle.grid.specs.Lent.{Grid}
 use Rattle.grid.specs.Visiting.{visited}
 use Rattle.grid.specs.Checks.{list_fits, tests, check}
-use Rattle.grid.proofs.Nearby.{accepted}
+use Rattle.grid.specs.Rows.{block_near, block_listed, RowsHeld, Small}
+use Rattle.grid.proofs.Nearby.{accepted, rows_held, small, visited_block}
 
 module _ (g : Grid) (p : Vec3) (reach : ℕ) (list : List ℕ) where
   abbrev outcome : Result Unit Refusal
@@ -49,3 +53,19 @@ module _ (g : Grid) (p : Vec3) (reach : ℕ) (list : List ℕ) where
   -- the starts and the items of a call that is not refused fit together
   pub near_fits : outcome ≡ Ok tt → list_fits g ≡ true
   near_fits e = (accepted g (near_own p reach) e).1.1.1.1.0
+
+  -- so that it can go over the block, whose numbers are those visited
+  pub near_walked : outcome ≡ Ok tt
+      → RowsHeld g.starts g.items g.n (block_near g.lo g.hi g.side p reach)
+      × Small g.n (block_near g.lo g.hi g.side p reach)
+      × (visited g p reach ≡ block_listed g.starts g.items (block_near g.lo g.hi g.side p reach))
+  near_walked e =
+      let few = at_most-le g.n max_surfels ((and-eq-true_iff (at_most g.n max_surfels) true).0 (accepted g (near_own p reach) e).0).0 in
+      (rows_held g p reach (near_fits e), small g p reach (near_fits e) few, visited_block g p reach (near_fits e))
+
+-- the same of a grid that is that one
+pub near_walked_at : (l g : Grid) (p : Vec3) (reach : ℕ) (list : List ℕ) → l ≡ g → check g (near_own p reach) ≡ Ok tt
+    → RowsHeld l.starts l.items l.n (block_near l.lo l.hi l.side p reach)
+    × Small l.n (block_near l.lo l.hi l.side p reach)
+    × (visited l p reach ≡ block_listed l.starts l.items (block_near l.lo l.hi l.side p reach))
+near_walked_at l g p reach list e h = near_walked l p reach list (rw e h)

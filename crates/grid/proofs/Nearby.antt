@@ -15,6 +15,7 @@ use Rattle.float.specs.Arithmetic.{◌/f◌, 1f}
 use Rattle.vector.specs.declared.Vec3.{Vec3}
 use Rattle.vector.specs.Flat.{rows}
 use Rattle.vector.proofs.Replaced.{rows_same}
+use Rattle.accept.specs.Limits.{max_surfels}
 use Rattle.accept.specs.Tables.{number_at, numbers_below, starts_monotone}
 use Rattle.accept.proofs.Bounded.{numbers_below_at}
 use Rattle.accept.proofs.Refused.{AllPassed, none_refused}
@@ -24,11 +25,11 @@ use Rattle.grid.specs.declared.Cell.{Cell}
 use Rattle.grid.specs.declared.Dims.{Dims}
 use Rattle.grid.specs.Lent.{Grid, cells_of}
 use Rattle.grid.specs.Visiting.{first_near, count_near, listed, visited}
-use Rattle.grid.specs.declared.Block.{Block}
-use Rattle.grid.specs.Rows.{block_near, row_from, row_to, row_listed, rows_listed, rows_near, RowsHeld, RowsLeft}
+use Rattle.grid.specs.Rows.{block_near, row_from, row_to, row_listed, block_listed, rows_near, RowsHeld, RowsLeft, Small}
 use Rattle.grid.specs.Cells.{dims_of, cell_of}
 use Rattle.grid.specs.Checks.{list_fits, tests, check}
-use Rattle.grid.proofs.Around.{number, number_along, inside, first_row, row_end}
+use Rattle.grid.proofs.Numbered.{dims_bounded}
+use Rattle.grid.proofs.Around.{number, number_along, near_end, inside, first_row, row_end}
 use Rattle.grid.proofs.Slices.{rows_join}
 use Rattle.grid.proofs.Walked.{rows_joined}
 
@@ -116,6 +117,17 @@ module _ (g : Grid) (p : Vec3) (reach : ℕ) (h : list_fits g ≡ true) where
         held = items_fit.0;
       }
 
+  -- and there are at most 512 rows and layers
+  pub small : g.n ≤ max_surfels → Small g.n (block_near g.lo g.hi g.side p reach)
+  unfolding block_near
+  small e =
+      let b = dims_bounded g.lo g.hi g.side in
+      record {
+        few = e;
+        rows_few = omega (arith, near_end c.y reach d.y (inside g.lo g.hi g.side p reach).y_in, b.y_to);
+        layers_few = omega (arith, near_end c.z reach d.z (inside g.lo g.hi g.side p reach).z_in, b.z_to);
+      }
+
   -- each row ends among the first n items
   pub rows_within : (j k : ℕ) → j < (block_near g.lo g.hi g.side p reach).rows → k < (block_near g.lo g.hi g.side p reach).layers
       → row_to g.starts (block_near g.lo g.hi g.side p reach) j k ≤ g.n
@@ -150,10 +162,6 @@ module _ (g : Grid) (p : Vec3) (reach : ℕ) (h : list_fits g ≡ true) where
       (λ j a. All-drop P (row_from g.starts b j k) (take (row_to g.starts b j k) g.items)
       (front_below (row_to g.starts b j k) (rw (first_row g.lo g.hi g.side p reach j k) (ends j k a h)))))))
 
--- the rows of a block that was found in a grid's own space
-pub rows_begin_at : (l g : Grid) (p : Vec3) (reach : ℕ) {b : Block} → l ≡ g → b ≡ block_near l.lo l.hi l.side p reach → list_fits g ≡ true → RowsLeft g.starts g.items b 0
-rows_begin_at l g p reach e f h = rw (f, e) (rows_begin g p reach h)
-
-pub rows_near_at : (l f g : Grid) (p : Vec3) (reach : ℕ) {b : Block} → l ≡ g → f ≡ g → b ≡ block_near l.lo l.hi l.side p reach
-    → rows_listed f.starts f.items b ≡ rows_near g p reach
-rows_near_at l f g p reach e i h = rw (h, e, i)
+  -- and the numbers of its layers
+  pub visited_block : visited g p reach ≡ block_listed g.starts g.items (block_near g.lo g.hi g.side p reach)
+  visited_block = visited_rows ∙ rows_joined g.starts g.items (block_near g.lo g.hi g.side p reach)

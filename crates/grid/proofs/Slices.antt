@@ -1,4 +1,4 @@
--- Parts of a list that follow one another. Assumes nothing.
+-- Parts of a list that follow one another, and how long the rows of a block are. Assumes nothing.
 use mathlib.Core.List.{List, ◌++◌}
 use mathlib.Core.Path.{◌≡◌, sym, ap, ◌∙◌}
 use Prim.Native.Nat.{ℕ, zero, suc, ◌+◌, ◌-◌, ◌≤◌, ◌<◌}
@@ -6,9 +6,11 @@ use native.Mathlib.Nat.{add-zero, add-suc}
 use native.Mathlib.Numerals.{add-one}
 use native.Mathlib.Omega.{arith}
 use lib.ListN.{length, take, drop}
-use lib.Seq.{slice, slice_empty, take-add, drop-append-le, drop_at, length-take-le}
+use lib.Seq.{slice, slice_empty, length-slice, take-add, drop-append-le, drop_at, length-take-le}
 use Rattle.vector.specs.Flat.{rows}
 use Rattle.accept.proofs.Starts.{not_falling}
+use Rattle.grid.specs.declared.Block.{Block}
+use Rattle.grid.specs.Rows.{row_from, row_to, row_listed, RowsHeld}
 
 -- a slice, and the one that follows it
 pub slice_join : {A : Type 0} (f t u : ℕ) (l : List A) → f ≤ t → t ≤ u → u ≤ length l → slice f t l ++ slice t u l ≡ slice f u l
@@ -33,3 +35,8 @@ rows_join s l a (suc m) h k =
     let z : a + 0 ≡ a = omega arith in
     let low = rw z at (not_falling (λ i. s (a + i)) m (λ i q. rw (add-one i, add-suc) (rw add-one at (h i (omega arith)))) 0 (omega arith)) in
     rw (e, rows_join s l a m (λ i q. h i (omega arith)) (omega arith)) (slice_join (s a) (s (a + m)) (s (a + m + 1)) l low up k)
+
+-- how many numbers a row lists
+pub row-length : (starts items : List ℕ) (n : ℕ) (b : Block) → RowsHeld starts items n b → (y z : ℕ) → y < b.rows → z < b.layers
+    → length (row_listed starts items b z y) ≡ row_to starts b y z - row_from starts b y z
+row-length starts items n b w y z h k = length-slice (row_from starts b y z) (row_to starts b y z) items (omega (arith, w.ends y z h k, w.held))

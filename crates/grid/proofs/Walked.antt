@@ -20,7 +20,7 @@ use Rattle.vector.proofs.Replaced.{length_rows, rows_same}
 use Rattle.accept.specs.declared.refusal.Refusal.{Refusal}
 use Rattle.accept.specs.declared.refusal.Refusal.TheVariants.{Length}
 use Rattle.grid.specs.declared.Block.{Block}
-use Rattle.grid.specs.Rows.{row_from, row_to, row_listed, rows_listed, rows_left, counted, RowsLeft}
+use Rattle.grid.specs.Rows.{row_from, row_to, row_listed, rows_listed, rows_left, RowsLeft}
 use Rattle.grid.proofs.Numbered.{row_major}
 
 -- rows joined are what their parts join to
@@ -105,19 +105,17 @@ module _ (starts items : List ℕ) (b : Block) where
       concat_rows (λ z. rows (λ y. row_listed starts items b z y ∷ []) b.rows) b.layers
       ∙ rows_same _ _ b.layers (λ z _. concat_rows (λ y. row_listed starts items b z y ∷ []) b.rows ∙ rows_same _ _ b.rows (λ y _. append-nil (row_listed starts items b z y)))
 
--- numbers that a list has no room for are refused, and others are all counted
-pub count_short : (l : List (List ℕ)) (room : ℕ) {refusal : Refusal} → counted l room ≡ Err refusal → (refusal ≡ Length) × (room < length (concat l))
-count_short l room {refusal} e = by_room (leb (length (concat l)) room) refl e
+-- numbers that a list has no room for are refused, and others are not
+pub room_short : (n room : ℕ) {refusal : Refusal} → ◌≡◌ {A = Result Unit Refusal} (cond (leb n room) (Ok tt) (Err Length)) (Err refusal) → (refusal ≡ Length) × (room < n)
+room_short n room {refusal} e = by_room (leb n room) refl e
   where
-    by_room : (b : Bool) → leb (length (concat l)) room ≡ b → ◌≡◌ {A = Result ℕ Refusal} (cond b (Ok (length (concat l))) (Err Length)) (Err refusal)
-        → (refusal ≡ Length) × (room < length (concat l))
+    by_room : (b : Bool) → leb n room ≡ b → ◌≡◌ {A = Result Unit Refusal} (cond b (Ok tt) (Err Length)) (Err refusal) → (refusal ≡ Length) × (room < n)
     by_room true p e = absurd cc
     by_room false p e = (cc, leb-false _ _ p)
 
-pub count_done : (l : List (List ℕ)) (room : ℕ) {n : ℕ} → counted l room ≡ Ok n → (n ≡ length (concat l)) × (length (concat l) ≤ room)
-count_done l room {n} e = by_room (leb (length (concat l)) room) refl e
+pub room_done : (n room : ℕ) {u : Unit} → ◌≡◌ {A = Result Unit Refusal} (cond (leb n room) (Ok tt) (Err Length)) (Ok u) → n ≤ room
+room_done n room e = by_room (leb n room) refl e
   where
-    by_room : (b : Bool) → leb (length (concat l)) room ≡ b → ◌≡◌ {A = Result ℕ Refusal} (cond b (Ok (length (concat l))) (Err Length)) (Ok n)
-        → (n ≡ length (concat l)) × (length (concat l) ≤ room)
-    by_room true p e = (cc, leb-true _ _ p)
+    by_room : (b : Bool) → leb n room ≡ b → ◌≡◌ {A = Result Unit Refusal} (cond b (Ok tt) (Err Length)) (Ok tt) → n ≤ room
+    by_room true p e = leb-true _ _ p
     by_room false p e = absurd cc

@@ -1,14 +1,12 @@
 -- The cells near a point as rows, and what one who goes over the rows asks: the cells of a row follow one another, so that the row's numbers stand together in the list. What is
 -- visited is defined in Visiting, and proved to be the same (`visited_rows`). Definitions only.
-use Rattle.std.specs.Prelude.{cond, List, [], ◌∷◌, ℕ, ◌+◌, ◌*◌, ◌<◌, ◌≤◌, leb, Result, Ok, Err, Float, drop, length}
-use Rattle.std.specs.List.{concat}
+use Rattle.std.specs.Prelude.{List, [], ◌∷◌, ℕ, ◌+◌, ◌*◌, ◌<◌, ◌≤◌, Float, drop, length}
 use Rattle.std.proofs.Math.Seq.{slice}
 use Rattle.float.specs.Arithmetic.{◌/f◌, 1f}
 use Rattle.vector.specs.declared.Vec3.{Vec3}
 use Rattle.vector.specs.Flat.{rows}
+use Rattle.accept.specs.Limits.{max_surfels}
 use Rattle.accept.specs.Tables.{number_at}
-use Rattle.accept.specs.declared.refusal.Refusal.{Refusal}
-use Rattle.accept.specs.declared.refusal.Refusal.TheVariants.{Length}
 use Rattle.grid.specs.declared.Block.{Block}
 use Rattle.grid.specs.Cells.{dims_of, cell_of, cell_number}
 use Rattle.grid.specs.Lent.{Grid}
@@ -43,6 +41,13 @@ row_to starts b y z = number_at starts (row_cell b y z + b.wide)
 abbrev pub row_listed : List ℕ → List ℕ → Block → ℕ → ℕ → List ℕ
 row_listed starts items b z y = slice (row_from starts b y z) (row_to starts b y z) items
 
+-- the numbers of a layer, of the block
+abbrev pub layer_listed : List ℕ → List ℕ → Block → ℕ → List ℕ
+layer_listed starts items b z = rows (row_listed starts items b z) b.rows
+
+abbrev pub block_listed : List ℕ → List ℕ → Block → List ℕ
+block_listed starts items b = rows (layer_listed starts items b) b.layers
+
 -- those of the rows of a block, layer after layer, and of the rows from row y of layer z on
 abbrev pub rows_listed : List ℕ → List ℕ → Block → List (List ℕ)
 rows_listed starts items b = rows (λ z. rows (λ y. row_listed starts items b z y ∷ []) b.rows) b.layers
@@ -54,16 +59,18 @@ rows_left starts items b z y = drop (b.rows * z + y) (rows_listed starts items b
 abbrev pub rows_near : Grid → Vec3 → ℕ → List (List ℕ)
 rows_near g p reach = rows_listed g.starts g.items (block_near g.lo g.hi g.side p reach)
 
--- how many numbers rows have, where a list has room for so many
-abbrev pub counted : List (List ℕ) → ℕ → Result ℕ Refusal
-counted l room = cond (leb (length (concat l)) room) (Ok (length (concat l))) (Err Length)
-
 -- each row of a block lies within starts, and its numbers within the first n of items
 pub record RowsHeld (starts items : List ℕ) (n : ℕ) (b : Block) : Type 0 where
   pub started : (y z : ℕ) → y < b.rows → z < b.layers → row_cell b y z + b.wide < length starts
   pub rises : (y z : ℕ) → y < b.rows → z < b.layers → row_from starts b y z ≤ row_to starts b y z
   pub ends : (y z : ℕ) → y < b.rows → z < b.layers → row_to starts b y z ≤ n
   pub held : n ≤ length items
+
+-- points within their limit, and at most 512 rows and layers
+pub record Small (n : ℕ) (b : Block) : Type 0 where
+  pub few : n ≤ max_surfels
+  pub rows_few : b.rows ≤ 512
+  pub layers_few : b.layers ≤ 512
 
 -- and the next row is number y of its layer
 pub record RowsLeft (starts items : List ℕ) (b : Block) (y : ℕ) : Type 0 where

@@ -5,10 +5,10 @@ ghost use Rattle.grid.specs.Answers.{grid_build_answer, near_answer};
 
 use crate::building::build;
 use crate::checks::{Own, check, check_build};
-use crate::walking::{count_numbers, list_numbers};
+use crate::listing::{count_block, list_block};
 use crate::{Dims, Grid, Space};
 use accept::limits::MAX_REACH;
-use accept::{Refusal, at_most, point};
+use accept::{Refusal, at_most, point, require};
 use vector::Vec3;
 
 // Puts n points into the cells of a box: items has their numbers, cell by cell, and starts where
@@ -38,9 +38,10 @@ pub fn near(grid: &Grid, p: Vec3, reach: usize, list: &mut [u32]) -> Result<usiz
         floats: point(p),
         ..Own::PASSED
     };
-    let fitted = check(grid, own)?;
+    check(grid, own)?;
     let block = grid.space.block_near(p, reach);
-    let count = count_numbers(fitted.rows_of(block), list.len())?;
-    list_numbers(fitted.rows_of(block), list);
+    let count = count_block(grid.starts, grid.items, grid.n, block);
+    require(count <= list.len(), Refusal::Length)?;
+    list_block(grid.starts, grid.items, grid.n, block, list);
     Ok(count)
 }

@@ -11,6 +11,7 @@ mod building;
 mod checks;
 mod entries;
 mod layout;
+mod listing;
 mod walking;
 
 pub use checks::{Own, check};

@@ -1,17 +1,15 @@
 // The numbers near a point, row by row: the cells of a row follow one another, so that its numbers
 // stand together in items.
-ghost use Rattle.std.specs.Prelude.{◌≡◌, ◌≤◌, cond, length, Some, None};
-ghost use Rattle.std.specs.List.{concat};
+ghost use Rattle.std.specs.Prelude.{◌≡◌, cond, Some, None};
 ghost use Rattle.std.specs.Iterator.{YieldsFirstBy, item_count};
-ghost use Rattle.std.proofs.lemmas.List.Edits.{sets};
 ghost use Rattle.grid.specs.Lent.{cells_of};
 ghost use Rattle.grid.specs.Checks.{list_fits};
-ghost use Rattle.grid.specs.Rows.{rows_listed, rows_near, counted, RowsLeft};
+ghost use Rattle.grid.specs.Rows.{rows_near};
 
 use crate::{Block, Grid};
-use accept::{Refusal, require, wide};
+use accept::wide;
 use std::marker::Model;
-use vector::{Vec3, put_all};
+use vector::Vec3;
 
 // A grid whose starts and items fit together, as `check` hands it out.
 #[derive(Drop)]
@@ -49,19 +47,10 @@ impl<'a> Fitted<'a> {
         ensures { result ≡ rows_near self.now p reach }
     {
         let grid = self.grid;
-        self.rows_of(grid.space.block_near(p, reach))
-    }
-
-    // The rows of a block of its cells.
-    pub(crate) fn rows_of(&self, block: Block) -> Rows<'a>
-        requires { RowsLeft self.now.starts self.now.items block 0 }
-        ensures { result ≡ rows_listed self.now.starts self.now.items block }
-    {
-        let grid = self.grid;
         Rows {
             starts: grid.starts,
             items: grid.items,
-            block,
+            block: grid.space.block_near(p, reach),
             z: 0,
             y: 0,
         }
@@ -109,29 +98,5 @@ impl<'a> Iterator for Rows<'a> {
             self.z += 1;
         }
         Some(&self.items[from..to])
-    }
-}
-
-// How many numbers these rows have; refused where a list has no room for so many.
-pub fn count_numbers(rows: Rows, room: usize) -> Result<usize, Refusal>
-    ensures { result ≡ counted rows.entry room }
-{
-    let mut count = 0;
-    for row in rows {
-        require(row.len() <= room - count, Refusal::Length)?;
-        count += row.len();
-    }
-    Ok(count)
-}
-
-// The numbers of these rows, listed from the front on.
-pub fn list_numbers(rows: Rows, list: &mut [u32])
-    requires { length (concat rows) ≤ length list.old }
-    ensures { list.new ≡ sets list.old 0 (concat rows.entry) }
-{
-    let mut at = 0;
-    for row in rows {
-        put_all(list, at, row);
-        at += row.len();
     }
 }

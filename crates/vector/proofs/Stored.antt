@@ -1,13 +1,14 @@
 -- Elements stored one after the other in a list, the rows of them that a loop stores, and what is kept. Assumes nothing.
 use mathlib.Core.List.{List, [], ◌∷◌, ◌++◌, append_assoc, append-nil}
 use mathlib.Core.Path.{◌≡◌, refl, sym, ap, ◌∙◌}
+use mathlib.Core.Logic.{◌⊎◌, inl, inr}
 use Prim.Native.Nat.{ℕ, zero, suc, ◌+◌, ◌-◌, ◌≤◌, ◌<◌, min}
-use native.Mathlib.Nat.{add-zero, add-suc, zero-add}
+use native.Mathlib.Nat.{add-zero, add-suc, zero-add, eq-or-lt_of_le}
 use native.Mathlib.Numerals.{add-one}
 use native.Mathlib.Omega.{arith}
 use lib.ListN.{length, get_or, set, take, drop, length-append, length-take, take-append-drop}
 use borrow.Rule.Slice.PartMut.{put_mid}
-use lib.Seq.{drop-drop, slice, length-slice, sets, sets-eq, take-nil, take-suc, take_at, drop_at, drop-append-le, drop-set-lt, get_or-drop, get_or-take, length-take-le, take-length}
+use lib.Seq.{drop-drop, slice, slice_empty, length-slice, sets, sets-eq, take-nil, take-suc, take_at, drop_at, drop-append-le, drop-set-lt, get_or-drop, get_or-take, length-take-le, take-length}
 use Rattle.std.proofs.lemmas.Slice.{put_mid-paste}
 use Rattle.vector.specs.Flat.{rows}
 
@@ -79,6 +80,10 @@ sets_part {A} l ys i k e h =
 pub slice_more : {A : Type 0} (f t : ℕ) (l : List A) (z : A) → f ≤ t → t < length l → slice f (t + 1) l ≡ slice f t l ++ (get_or l t z ∷ [])
 slice_more f t l z h k = rw (add-one t, take-suc l t z k) (drop-append-le f (take t l) (get_or l t z ∷ []) (rw (length-take-le t l (omega arith)) h))
 
+-- a loop that stores a slice starts with none of it, and puts one element more to those stored
+pub slice_none : {A : Type 0} (f at : ℕ) (l items : List A) → l ≡ sets l at (slice f (f + 0) items)
+slice_none {A} f at l items = rw (add-zero f) (ap (sets l at) (sym (slice_empty f items)))
+
 -- a loop that stores a slice puts one element more to those stored
 pub slice_stored : {A : Type 0} (f j at : ℕ) (l items : List A) (z : A) {d e : List A} {x : A} → f + j < length items
     → d ≡ sets l at (slice f (f + j) items) → x ≡ get_or items (f + j) z → e ≡ set d (at + j) x → e ≡ sets l at (slice f (f + (j + 1)) items)
@@ -104,6 +109,20 @@ rows_stored f n i l p q r = (
   rw (r, q, p, rows_more f n) (sym (sets_append l i (rows f n) (f n))),
   rw (rows_more f n, length-append) (omega (arith, q)),
 )
+
+-- the rows so far are no longer than all of them
+pub rows-length : {A : Type 0} (f : ℕ → List A) (n m : ℕ) → n < m → length (rows f n) + length (f n) ≤ length (rows f m)
+unfolding rows
+rows-length f n zero h = absurd (omega arith)
+rows-length f n (suc m) h = rw length-append (by_cases (rows-length f n m) (eq-or-lt_of_le {n = n} {m = m} (omega arith)))
+  where
+    by_cases : (n < m → length (rows f n) + length (f n) ≤ length (rows f m)) → (n ≡ m) ⊎ (n < m) → length (rows f n) + length (f n) ≤ length (rows f m) + length (f m)
+    by_cases before (inl e) = rw e (omega arith)
+    by_cases before (inr k) = omega (arith, before k)
+
+-- the rows so far are counted, and the next
+pub rows_counted : {A : Type 0} (f : ℕ → List A) (n : ℕ) {count r : ℕ} → count ≡ length (rows f n) → r ≡ length (f n) → count + r ≡ length (rows f (n + 1))
+rows_counted f n p q = rw (rows_more f n, length-append, p, q)
 
 -- rows after the first a
 pub rows_split : {A : Type 0} (f : ℕ → List A) (a m : ℕ) → rows f (a + m) ≡ rows f a ++ rows (λ i. f (a + i)) m

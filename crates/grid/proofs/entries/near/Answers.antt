@@ -1,52 +1,64 @@
--- `grid::entries::near` meets its contract. Each way out is a case of the definition; the rows' numbers are those visited. Assumes nothing.
-use mathlib.Core.Path.{sym, ◌∙◌}
+-- `grid::entries::near` meets its contract. Each way out is a case of the definition; the block's numbers are those visited. Assumes nothing.
+use mathlib.Core.Path.{◌≡◌, sym, ap, ◌∙◌}
 use lib.ListN.{length}
 use Rattle.std.proofs.lemmas.Result.{err_from_is_err_and}
-use Rattle.grid.specs.Rows.{rows_near}
-use Rattle.grid.proofs.Answered.{near_refused, near_short, near_done, near_fits}
+use Rattle.std.specs.Prelude.{Ok}
+use Rattle.grid.specs.Lent.{Grid}
+use Rattle.grid.specs.Answers.{near_own}
+use Rattle.grid.specs.Checks.{check}
+use Rattle.grid.specs.Rows.{block_near, block_listed, RowsHeld, Small}
+use Rattle.grid.specs.Visiting.{visited}
+use Rattle.grid.proofs.Answered.{near_refused, near_short, near_done, near_walked_at}
 use Rattle.grid.proofs.Handed.{handed, turned_away}
-use Rattle.grid.proofs.Nearby.{visited_rows, rows_begin_at, rows_near_at}
-use Rattle.grid.proofs.Walked.{count_short, count_done}
+use Rattle.grid.proofs.Walked.{room_short, room_done}
 use Rattle.grid.proofs.entries.near.Goals as goal
 
-pub returns-in_err-fitted : goal.returns-in_err-fitted
-returns-in_err-fitted c =
+pub returns-in_err-check : goal.returns-in_err-check
+returns-in_err-check c =
     let a = c.args in
     let e = rw (c.point.ensures, c.at_most.ensures) at c.check.ensures in
     let p = err_from_is_err_and c.from_residual.result c.from_residual.ensures.1 in
-    rw (p.1, p.2) (near_refused a.grid.now a.p a.reach a.list.now (turned_away a.grid.now _ (sym e ∙ c.in_err-fitted.was)))
+    rw (p.1, p.2) (near_refused a.grid.now a.p a.reach a.list.now (turned_away a.grid.now _ (sym e ∙ c.in_err-check.was)))
 
-pub rows_of-requires : goal.rows_of-requires
-rows_of-requires c =
+pub count_block-count-requires-clause-rows_held : goal.count_block-count-requires-clause-rows_held
+count_block-count-requires-clause-rows_held c =
     let a = c.args in
     let e = rw (c.point.ensures, c.at_most.ensures) at c.check.ensures in
-    let z = handed a.grid.now _ (sym e ∙ c.in_ok-fitted.was) in
-    rows_begin_at _ c.in_ok-fitted.fitted a.p a.reach (c.grid.view_is ∙ sym z.1) c.block_near-block.ensures (rw z.1 (near_fits a.grid.now a.p a.reach a.list.now z.0))
+    let z = handed a.grid.now _ (sym e ∙ c.in_ok-check.was) in
+    rw c.block_near-block.ensures (near_walked_at _ a.grid.now a.p a.reach a.list.now c.grid.view_is z.0).0
 
-pub rows_of-requires-2 : goal.rows_of-requires-2
-rows_of-requires-2 c =
+pub count_block-count-requires-clause-small : goal.count_block-count-requires-clause-small
+count_block-count-requires-clause-small c =
     let a = c.args in
     let e = rw (c.point.ensures, c.at_most.ensures) at c.check.ensures in
-    let z = handed a.grid.now _ (sym e ∙ c.in_ok-fitted.was) in
-    rows_begin_at _ c.in_ok-fitted.fitted a.p a.reach (c.grid.view_is ∙ sym z.1) c.block_near-block.ensures (rw z.1 (near_fits a.grid.now a.p a.reach a.list.now z.0))
+    let z = handed a.grid.now _ (sym e ∙ c.in_ok-check.was) in
+    rw c.block_near-block.ensures (near_walked_at _ a.grid.now a.p a.reach a.list.now c.grid.view_is z.0).1
 
-pub returns-in_err-count : goal.returns-in_err-count
-returns-in_err-count c =
+pub returns-in_err-require : goal.returns-in_err-require
+returns-in_err-require c =
     let a = c.args in
     let e = rw (c.point.ensures, c.at_most.ensures) at c.check.ensures in
-    let z = handed a.grid.now _ (sym e ∙ c.in_ok-fitted.was) in
-    let v = visited_rows a.grid.now a.p a.reach (near_fits a.grid.now a.p a.reach a.list.now z.0) in
-    let r = rows_near_at _ c.in_ok-fitted.fitted a.grid.now a.p a.reach c.grid.view_is z.1 c.block_near-block.ensures in
-    let s = count_short (rows_near a.grid.now a.p a.reach) (length a.list.now) (sym (rw (c.rows_of.ensures, r) at c.count_numbers.ensures) ∙ c.in_err-count.was) in
-    let p = err_from_is_err_and c.from_residual-in_err-count.result c.from_residual-in_err-count.ensures.1 in
-    rw (p.1, p.2, s.0) (near_short a.grid.now a.p a.reach a.list.now z.0 (rw v s.1))
+    let z = handed a.grid.now _ (sym e ∙ c.in_ok-check.was) in
+    let w = near_walked_at _ a.grid.now a.p a.reach a.list.now c.grid.view_is z.0 in
+    let count = rw (c.block_near-block.ensures, ← w.2, c.grid.view_is) at c.count_block-count.ensures in
+    let s = room_short _ _ (sym c.require.ensures ∙ c.in_err-require.was) in
+    let p = err_from_is_err_and c.from_residual-in_err-require.result c.from_residual-in_err-require.ensures.1 in
+    rw (p.1, p.2, s.0) (near_short a.grid.now a.p a.reach a.list.now z.0 (rw count at s.1))
+
+pub list_block-requires-clause-rows_held : goal.list_block-requires-clause-rows_held
+list_block-requires-clause-rows_held c =
+    let a = c.args in
+    let e = rw (c.point.ensures, c.at_most.ensures) at c.check.ensures in
+    let z = handed a.grid.now _ (sym e ∙ c.in_ok-check.was) in
+    rw c.block_near-block.ensures (near_walked_at _ a.grid.now a.p a.reach a.list.now c.grid.view_is z.0).0
 
 pub returns : goal.returns
 returns c =
     let a = c.args in
     let e = rw (c.point.ensures, c.at_most.ensures) at c.check.ensures in
-    let z = handed a.grid.now _ (sym e ∙ c.in_ok-fitted.was) in
-    let v = visited_rows a.grid.now a.p a.reach (near_fits a.grid.now a.p a.reach a.list.now z.0) in
-    let r = rows_near_at _ c.in_ok-fitted.fitted a.grid.now a.p a.reach c.grid.view_is z.1 c.block_near-block.ensures in
-    let s = count_done (rows_near a.grid.now a.p a.reach) (length a.list.now) (sym (rw (c.rows_of.ensures, r) at c.count_numbers.ensures) ∙ c.in_ok-count.was) in
-    rw (s.0, c.list_numbers.ensures, c.rows_of-2.ensures, r, ← v) (near_done a.grid.now a.p a.reach a.list.now z.0 (rw v s.1))
+    let z = handed a.grid.now _ (sym e ∙ c.in_ok-check.was) in
+    let w = near_walked_at _ a.grid.now a.p a.reach a.list.now c.grid.view_is z.0 in
+    let count = rw (c.block_near-block.ensures, ← w.2, c.grid.view_is) at c.count_block-count.ensures in
+    let stored = rw (c.block_near-block.ensures, ← w.2, c.grid.view_is) at c.list_block.ensures in
+    let s = room_done _ _ (sym c.require.ensures ∙ c.in_ok-require.was) in
+    rw (count, stored) (near_done a.grid.now a.p a.reach a.list.now z.0 (rw count at s))

@@ -1,0 +1,119 @@
+// The numbers near a point, counted and listed.
+ghost use Rattle.std.specs.Prelude.{◌≡◌, ◌+◌, ◌*◌, ◌-◌, ◌<◌, ◌≤◌, length};
+ghost use Rattle.std.proofs.Math.Seq.{slice};
+ghost use Rattle.std.proofs.lemmas.List.Edits.{sets};
+ghost use Rattle.accept.specs.Limits.{max_surfels};
+ghost use Rattle.grid.specs.Rows.{layer_listed, block_listed, row_from, row_to, RowsHeld, Small};
+
+use crate::Block;
+use accept::wide;
+
+// Places of items, from the first up to the second.
+#[derive(Clone, Copy)]
+struct Row {
+    from: usize,
+    to: usize,
+}
+
+// How many numbers a block lists.
+pub fn count_block(starts: &[u32], items: &[u32], n: usize, b: Block) -> usize
+    requires rows_held { RowsHeld starts.now items.now n b }
+    requires small { Small n b }
+    ensures { result ≡ length (block_listed starts.now items.now b) }
+{
+    let mut count = 0;
+    let mut z = 0;
+    while z < b.layers {
+        count += count_layer(starts, items, n, b, z);
+        z += 1;
+    }
+    count
+}
+
+// How many numbers layer z of a block lists.
+fn count_layer(starts: &[u32], items: &[u32], n: usize, b: Block, z: usize) -> usize
+    requires rows_held { RowsHeld starts.now items.now n b }
+    requires small { Small n b }
+    requires z_lt_layers { z < b.layers }
+    ensures value { result ≡ length (layer_listed starts.now items.now b z) }
+    ensures upper_bound { result ≤ 512 * max_surfels }
+{
+    let mut count = 0;
+    let mut y = 0;
+    while y < b.rows {
+        let row = row_at(starts, items, n, b, z, y);
+        count += row.to - row.from;
+        y += 1;
+    }
+    count
+}
+
+// The numbers of a block, listed from place 0 on.
+pub fn list_block(starts: &[u32], items: &[u32], n: usize, b: Block, list: &mut [u32])
+    requires rows_held { RowsHeld starts.now items.now n b }
+    requires b_in_bounds { length (block_listed starts.now items.now b) ≤ length list.old }
+    ensures { list.new ≡ sets list.old 0 (block_listed starts.now items.now b) }
+{
+    let mut at = 0;
+    let mut z = 0;
+    while z < b.layers {
+        at = list_layer(starts, items, n, b, z, list, at);
+        z += 1;
+    }
+}
+
+// The numbers of layer z of a block, listed from place `at` on; the place after them.
+fn list_layer(
+    starts: &[u32],
+    items: &[u32],
+    n: usize,
+    b: Block,
+    z: usize,
+    list: &mut [u32],
+    at: usize,
+) -> usize
+    requires rows_held { RowsHeld starts.now items.now n b }
+    requires z_lt_layers { z < b.layers }
+    requires z_in_bounds { at + length (layer_listed starts.now items.now b z) ≤ length list.old }
+    ensures value { result ≡ at + length (layer_listed starts.now items.now b z) }
+    ensures list_after { list.new ≡ sets list.old at (layer_listed starts.now items.now b z) }
+{
+    let mut k = at;
+    let mut y = 0;
+    while y < b.rows {
+        let row = row_at(starts, items, n, b, z, y);
+        list_row(items, row.from, row.to, list, k);
+        k += row.to - row.from;
+        y += 1;
+    }
+    k
+}
+
+// The numbers of items from one place up to another, listed from place `at` on.
+fn list_row(items: &[u32], from: usize, to: usize, list: &mut [u32], at: usize)
+    requires from_le_to { from ≤ to }
+    requires to_in_bounds { to ≤ length items.now }
+    requires from_in_bounds { at + (to - from) ≤ length list.old }
+    ensures { list.new ≡ sets list.old at (slice from to items.now) }
+{
+    let mut j = 0;
+    while j < to - from {
+        list[at + j] = items[from + j];
+        j += 1;
+    }
+}
+
+// Where the numbers of row y of layer z of a block stand in items.
+fn row_at(starts: &[u32], items: &[u32], n: usize, b: Block, z: usize, y: usize) -> Row
+    requires rows_held { RowsHeld starts.now items.now n b }
+    requires z_lt_layers { z < b.layers }
+    requires y_lt_rows { y < b.rows }
+    ensures from_value { result.from ≡ row_from starts.now b y z }
+    ensures to_value { result.to ≡ row_to starts.now b y z }
+{
+    let c = b.first + b.layer_step * z + b.row_step * y;
+    Row {
+        from: wide(starts[c]),
+        to: wide(starts[c + b.wide]),
+    }
+}
