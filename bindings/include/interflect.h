@@ -2,7 +2,7 @@
  * Bounced light in a room: the C interface of libinterflect.a, for C99 and C++.
  *
  * `rt lib` in crates/interflect writes crates/interflect/out/libinterflect.a, for
- * x86-64 Linux; of other libraries it needs memcpy, memmove and memset alone. The functions beneath are its
+ * x86-64 Linux; of other libraries it needs memcpy and memset alone. The functions beneath are its
  * seventeen entries, and three float functions.
  *
  * Slices. A slice is a pointer and behind it its length, `p` and `p_len`, counted in elements of the
