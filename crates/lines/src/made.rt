@@ -35,6 +35,7 @@ pub fn bounces(bounces: u32, change: f32, settled: bool) -> Line
 }
 
 // The reading at a probe: its number, whether light is seen there, and the light.
+// Kept: a flag beside the light, since it takes any light, seen or not.
 pub fn probe(number: u32, seen: bool, light: Vec3) -> Line
     ensures { result ≡ probe_line number seen light }
 {

@@ -13,6 +13,7 @@ use std::marker::Model;
 use vector::Vec3;
 
 // Up to 16 words, the operands or the result of a case. They are shown with a space between two.
+// Kept: an array and a count, since the kit's list of bounded length is not Copy.
 #[derive(Clone, Copy)]
 pub struct Words {
     words: [u32; 16],

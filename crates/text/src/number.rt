@@ -9,6 +9,7 @@ ghost use Rattle.text.specs.Digits.{glyph as Digits·glyph};
 use std::marker::Model;
 
 // A number's decimal digits: up to ten bytes.
+// Kept: an array and a count, since the kit's list of bounded length is not Copy.
 #[derive(Clone, Copy)]
 pub struct Numeral {
     digits: [u8; 10],

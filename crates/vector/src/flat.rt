@@ -66,7 +66,8 @@ pub fn put_float(s: &mut [f32], k: usize, x: f32)
 }
 
 // Stores the items one after the other from place `at` on; an item that would lie past the end is not
-// stored. A library for C that copies so needs no memmove from outside, as with `copy_from_slice`.
+// stored.
+// Kept: a loop, since with `copy_from_slice` the library for C asks for memmove from outside.
 pub fn put_all<T: Copy>(s: &mut [T], at: usize, items: &[T])
     ensures { s.new ≡ sets s.old at items.now }
 {

@@ -1,13 +1,6 @@
 -- `grid::entries::near` meets its contract. Each way out is a case of the definition; the block's numbers are those visited. Assumes nothing.
-use mathlib.Core.Path.{◌≡◌, sym, ap, ◌∙◌}
-use lib.ListN.{length}
+use mathlib.Core.Path.{sym, ◌∙◌}
 use Rattle.std.proofs.lemmas.Result.{err_from_is_err_and}
-use Rattle.std.specs.Prelude.{Ok}
-use Rattle.grid.specs.Lent.{Grid}
-use Rattle.grid.specs.Answers.{near_own}
-use Rattle.grid.specs.Checks.{check}
-use Rattle.grid.specs.Rows.{block_near, block_listed, RowsHeld, Small}
-use Rattle.grid.specs.Visiting.{visited}
 use Rattle.grid.proofs.Answered.{near_refused, near_short, near_done, near_walked_at}
 use Rattle.grid.proofs.Handed.{handed, turned_away}
 use Rattle.grid.proofs.Walked.{room_short, room_done}

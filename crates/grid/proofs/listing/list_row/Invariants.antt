@@ -7,6 +7,3 @@ use Rattle.grid.proofs.listing.list_row.Given as goal
 
 abbrev pub invariant-loop-j : goal.invariant-loop-j
 invariant-loop-j l = (l.j ≤ l.to - l.from) × (l.list ≡ sets l.initial.list l.at (slice l.from (l.from + l.j) l.items)) × (length l.list ≡ length l.initial.list)
-
-abbrev pub decreases-loop-j : goal.decreases-loop-j
-decreases-loop-j l = l.to - l.from - l.j
