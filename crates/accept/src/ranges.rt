@@ -17,7 +17,6 @@ pub fn within(x: f32, lo: f32, hi: f32) -> bool
 }
 
 // Whether s holds n entries of `each` floats, and each float of these entries is from lo to hi.
-#[inline(always)]
 pub fn floats_within<F: Listed<f32>>(s: F, n: usize, each: usize, lo: f32, hi: f32) -> bool
     ensures { result ≡ floats_within (F.items s) n each lo hi }
 {
@@ -25,7 +24,6 @@ pub fn floats_within<F: Listed<f32>>(s: F, n: usize, each: usize, lo: f32, hi: f
 }
 
 // Whether each of the first n floats of s is from lo to hi.
-#[inline(always)]
 fn all_within<F: Listed<f32>>(s: F, n: usize, lo: f32, hi: f32) -> bool
     requires { n ≤ length (F.items s) }
     ensures { result ≡ all_within (float_at (F.items s)) n lo hi }

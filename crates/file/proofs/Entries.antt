@@ -4,15 +4,17 @@ use mathlib.Core.List.{List, [], ◌∷◌, ◌++◌, append-nil}
 use mathlib.Core.Path.{◌≡◌, refl, sym, ap, subst, ◌∙◌}
 use Prim.Native.Nat.{ℕ, suc, ◌+◌, ◌*◌, ◌≤◌, ◌<◌}
 use native.Mathlib.Nat.{mul-suc, mul_comm, mul-le-mul, mul-le-mul_left}
+use native.Mathlib.Numerals.{add-one}
 use native.Mathlib.Omega.{arith}
 use lib.Dec.{leb}
 use lib.Ieee.{Float, nan}
-use lib.ListN.{length, get_or, drop, drop_of_length-le}
-use lib.Seq.{get_or-drop, get_or-take}
+use lib.ListN.{length, get_or, set, drop, drop_of_length-le}
+use lib.Seq.{sets, get_or-drop, get_or-take}
 use borrow.Author.Tests.{leb-true, lt-leb, le-leb}
 use Rattle.float.specs.Column.{float_at}
 use Rattle.vector.specs.Flat.{rows, replaced}
-use Rattle.vector.proofs.Replaced.{length_rows, row_written, at_filled}
+use Rattle.vector.proofs.Replaced.{length_rows, replaced_none, replaced_more, row_written, at_filled}
+use Rattle.vector.proofs.Stored.{rows_stored}
 use Rattle.accept.specs.Every.{every, conj}
 use Rattle.accept.specs.Limits.{max_file}
 use Rattle.accept.specs.Ranges.{within, all_within, floats_within}
@@ -48,6 +50,11 @@ next_entry w i n h = omega (arith, mul-suc w i, mul-le-mul_left {m = suc i} {n =
 
 -- ---- the lists of a column
 
+-- d has n single elements stored from place i on, and e has the next stored after them
+pub single_stored : {A : Type 0} (g : ℕ → A) (n i : ℕ) (l : List A) {d e : List A} {x : A}
+    → d ≡ sets l i (rows (λ k. g k ∷ []) n) → x ≡ g n → e ≡ set d (i + n) x → e ≡ sets l i (rows (λ k. g k ∷ []) (n + 1))
+single_stored g n i l {d} {e} p q r = (rows_stored (λ k. g k ∷ []) n i l {d = d} {e = e} {k = i + n} p (rw (single_length g n)) (rw (r, q))).0
+
 module _ (b : List ℕ) (col : Column) where
   entry_length : (i : ℕ) → length (entry_floats b col i) ≡ col.width
   entry_length i = single_length (λ j. float_in b (entry_from col i + j)) col.width
@@ -76,6 +83,14 @@ module _ (b : List ℕ) (col : Column) where
   numbers_exact l h =
       rows_alone 1 (λ i. word_in b (entry_from col i) ∷ []) col.count l (omega arith)
       ∙ sym (rows_alone 1 (λ i. word_in b (entry_from col i) ∷ []) col.count [] (omega arith))
+
+  -- the floats of i entries in the front of a list, and one entry more
+  pub floats_none : (l : List Float) → l ≡ replaced col.width (entry_floats b col) 0 l
+  floats_none = replaced_none col.width (entry_floats b col) entry_length
+
+  pub floats_more : (i : ℕ) (l : List Float) {d e : List Float} → d ≡ replaced col.width (entry_floats b col) i l → col.width * i + col.width ≤ length l
+      → e ≡ sets d (col.width * i) (entry_floats b col i) → e ≡ replaced col.width (entry_floats b col) (i + 1) l
+  floats_more i l p h q = rw (q, p, add-one i) (replaced_more col.width (entry_floats b col) entry_length i l h)
 
   -- and it is put in front of a list of any length
   pub floats_put : (l : List Float) → floats_of b col ++ drop (length (floats_of b col)) l ≡ floats_over b col l

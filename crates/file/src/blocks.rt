@@ -7,6 +7,7 @@ ghost use Rattle.file.specs.Blocks.{row_starts, link_clusters, link_weights, pro
 ghost use Rattle.file.specs.Columns.{numbers_read, floats_read, numbers_of, floats_of};
 ghost use Rattle.file.specs.Columns.{inside as Columns·inside};
 
+use crate::floats::read_floats;
 use crate::lying::{Lying, store};
 use crate::{Column, Counts, RoomFile};
 use accept::limits::MAX_FILE;
@@ -25,8 +26,8 @@ impl Blocks<'_> {
         ensures p_after { p.new ≡ floats_read self.now.bytes.now (points self.now.counts) p.old }
         ensures facing_after { facing.new ≡ floats_read self.now.bytes.now (normals self.now.counts) facing.old }
     {
-        store(self.found(self.counts.points()), p);
-        store(self.found(self.counts.normals()), facing);
+        read_floats(self.found(self.counts.points()), p);
+        read_floats(self.found(self.counts.normals()), facing);
     }
 
     // Reads their albedo, area and direct light.
@@ -35,9 +36,9 @@ impl Blocks<'_> {
         ensures area_after { area.new ≡ floats_read self.now.bytes.now (areas self.now.counts) area.old }
         ensures direct_after { direct.new ≡ floats_read self.now.bytes.now (directs self.now.counts) direct.old }
     {
-        store(self.found(self.counts.albedos()), albedo);
-        store(self.found(self.counts.areas()), area);
-        store(self.found(self.counts.directs()), direct);
+        read_floats(self.found(self.counts.albedos()), albedo);
+        read_floats(self.found(self.counts.areas()), area);
+        read_floats(self.found(self.counts.directs()), direct);
     }
 
     // Reads the clusters and their members.
@@ -53,7 +54,7 @@ impl Blocks<'_> {
         ensures count_after { count.new ≡ numbers_read self.now.bytes.now (member_counts self.now.counts) count.old }
         ensures member_after { member.new ≡ numbers_read self.now.bytes.now (members self.now.counts) member.old }
     {
-        store(self.found(self.counts.cluster_areas()), area);
+        read_floats(self.found(self.counts.cluster_areas()), area);
         store(self.found(self.counts.firsts()), first);
         store(self.found(self.counts.member_counts()), count);
         store(self.found(self.counts.members()), member);
@@ -67,7 +68,7 @@ impl Blocks<'_> {
     {
         store(self.found(self.counts.row_starts()), starts);
         store(self.found(self.counts.link_clusters()), cluster);
-        store(self.found(self.counts.link_weights()), weight);
+        read_floats(self.found(self.counts.link_weights()), weight);
     }
 
     // Reads the probes.
@@ -75,12 +76,11 @@ impl Blocks<'_> {
         ensures p_after { p.new ≡ floats_read self.now.bytes.now (probe_points self.now.counts) p.old }
         ensures facing_after { facing.new ≡ floats_read self.now.bytes.now (probe_normals self.now.counts) facing.old }
     {
-        store(self.found(self.counts.probe_points()), p);
-        store(self.found(self.counts.probe_normals()), facing);
+        read_floats(self.found(self.counts.probe_points()), p);
+        read_floats(self.found(self.counts.probe_normals()), facing);
     }
 
     // The column that stands there, none where it does not lie in the file.
-    #[inline(always)]
     fn found(&self, place: Column) -> Option<Lying<'_>>
         ensures numbers { option_map (λ l. numbers_of l.bytes.now l.place) result
             ≡ cond (Columns·inside self.now.bytes.now place) (Some (numbers_of self.now.bytes.now place)) None }

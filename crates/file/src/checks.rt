@@ -8,14 +8,12 @@ ghost use Rattle.file.specs.Needs.{Ends, Inside};
 
 use crate::lying::Lying;
 use crate::words::word_at;
-use crate::{Column, Counts, ProbeBox, RoomFile};
+use crate::{Column, Counts, ProbeBox, RoomFile, floats};
 use accept::limits::{
     MAX_ALBEDO, MAX_AMOUNT, MAX_BOUNCES, MAX_CLUSTER_AREA, MAX_CLUSTERS, MAX_COORDINATE, MAX_LINKS,
     MAX_SURFELS, MAX_WEIGHT, MIN_FILE,
 };
-use accept::{
-    Refusal, at_most, floats_within, links_ascend, numbers_below, ranges_contiguous, require, wide,
-};
+use accept::{Refusal, at_most, links_ascend, numbers_below, ranges_contiguous, require, wide};
 use surfel::radius_within;
 
 impl RoomFile<'_> {
@@ -109,12 +107,11 @@ impl RoomFile<'_> {
     }
 
     // Whether each float of a column is from lo to hi.
-    #[inline(always)]
     fn column_within(&self, place: Column, lo: f32, hi: f32) -> bool
         requires { Inside self.now place }
         ensures { result ≡ floats_within (floats_of self.now place) place.count place.width lo hi }
     {
-        floats_within(self.column(place), place.count, place.width, lo, hi)
+        floats::column_within(self.bytes, place, lo, hi)
     }
 }
 

@@ -7,6 +7,7 @@
 mod blocks;
 mod checks;
 mod columns;
+mod floats;
 mod header;
 mod lying;
 mod words;

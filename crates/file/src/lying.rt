@@ -46,8 +46,6 @@ impl<'a> Listed<f32> for Lying<'a> {
     }
 
     // Float k, entry by entry.
-    // Inlined, with what leads here, so that the width is a constant where a column is read or tested.
-    #[inline(always)]
     fn item(self, k: usize) -> Option<f32> {
         let width = self.place.width;
         if k < width * self.place.count {
@@ -61,7 +59,6 @@ impl<'a> Listed<f32> for Lying<'a> {
 
 // Puts the items of a list at the front of out, where there is one and out holds them; otherwise out
 // stays as it was.
-#[inline(always)]
 pub(crate) fn store<T: Copy, L: Listed<T>>(found: Option<L>, out: &mut [T])
     ensures { out.new ≡ put_front (option_map L.items found) out.old }
 {
