@@ -42,7 +42,7 @@ pub fn check<'a>(grid: &'a Grid<'a>, own: Own) -> Result<Fitted<'a>, Refusal>
     let cells = grid.space.cells();
     require(grid.tables_hold(cells) & own.lent, Refusal::Length)?;
     require(own.floats, Refusal::Float)?;
-    Fitted::new(grid, cells).ok_or(Refusal::Numbers)
+    Fitted::of_cells(grid, cells).ok_or(Refusal::Numbers)
 }
 
 impl Grid<'_> {
@@ -57,7 +57,15 @@ impl Grid<'_> {
 
     // Whether the starts rise from 0 to the count of points, and the items number points.
     #[tactic(auto, unfolding(crate::specs::Checks::list_fits))]
-    pub(crate) fn list_fits(&self, count: usize) -> bool
+    pub(crate) fn list_fits(&self) -> bool
+        ensures { result ≡ list_fits self.now }
+    {
+        self.list_fits_cells(self.space.cells())
+    }
+
+    // The same of a grid that is known to have so many cells.
+    #[tactic(auto, unfolding(crate::specs::Checks::list_fits))]
+    pub(crate) fn list_fits_cells(&self, count: usize) -> bool
         requires { count ≡ cells_of self.now }
         ensures { result ≡ list_fits self.now }
     {

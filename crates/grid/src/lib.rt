@@ -12,6 +12,8 @@ mod checks;
 mod entries;
 mod layout;
 mod listing;
+#[cfg(test)]
+mod tests;
 mod walking;
 
 pub use checks::{Own, check};

@@ -30,12 +30,19 @@ impl<'a> Model for Fitted<'a> {
 }
 
 impl<'a> Fitted<'a> {
-    // The grid of so many cells, if its starts and items fit together.
-    pub(crate) fn new(grid: &'a Grid<'a>, count: usize) -> Option<Fitted<'a>>
+    // The grid, if its starts and items fit together.
+    pub(crate) fn new(grid: &'a Grid<'a>) -> Option<Fitted<'a>>
+        ensures { result ≡ cond (list_fits grid.now) (Some grid.now) None }
+    {
+        Fitted::of_cells(grid, grid.space.cells())
+    }
+
+    // The same of a grid that is known to have so many cells.
+    pub(crate) fn of_cells(grid: &'a Grid<'a>, count: usize) -> Option<Fitted<'a>>
         requires { count ≡ cells_of grid.now }
         ensures { result ≡ cond (list_fits grid.now) (Some grid.now) None }
     {
-        if grid.list_fits(count) {
+        if grid.list_fits_cells(count) {
             Some(Fitted { grid })
         } else {
             None

@@ -1,6 +1,7 @@
 // Standard input replayed line by line.
 use crate::{Line, Lines, Word, Words, shown};
 use std::io;
+use std::io::Write;
 
 // Of a longer input no more bytes are read.
 const MAX_TEXT: usize = 524288;
@@ -14,9 +15,14 @@ pub trait Replay {
     // The result words of the question that a line is; none where it is no question.
     fn answer(&mut self, line: &Line<'_>) -> Option<Words>;
 
-    // Prints the answer to a line that stores nothing.
-    fn print(&mut self, rt: &impl Print, line: &Line<'_>) -> io::Result<()> {
-        print_answer(rt, self.answer(line))
+    // Writes the answer to a line that stores nothing to a writer of the caller's.
+    fn print(&mut self, out: &mut impl Write, line: &Line<'_>) -> io::Result<()> {
+        print_answer(out, self.answer(line))
+    }
+
+    // Prints what a line that stores nothing asks for: its answer, unless a program shows more.
+    fn println(&mut self, rt: &impl Print, line: &Line<'_>) -> io::Result<()> {
+        println_answer(rt, self.answer(line))
     }
 }
 
@@ -32,23 +38,45 @@ pub fn run(rt: &(impl Input + Print), replayed: &mut impl Replay) -> io::Result<
             None => Line::unread(bytes),
         };
         if !replayed.store(&line) {
-            replayed.print(rt, &line)?;
+            replayed.println(rt, &line)?;
         }
     }
     Ok(())
 }
 
-// Prints the words of an answer on a line, or `unread` where there is none.
-pub fn print_answer(rt: &impl Print, answer: Option<Words>) -> io::Result<()> {
+// Writes the words of an answer on a line, or `unread` where there is none.
+pub fn print_answer(out: &mut impl Write, answer: Option<Words>) -> io::Result<()> {
+    match answer {
+        Some(words) => writeln!(out, "{words}"),
+        None => writeln!(out, "unread"),
+    }
+}
+
+// Prints them on standard output, a line in one write.
+pub fn println_answer(rt: &impl Print, answer: Option<Words>) -> io::Result<()> {
     match answer {
         Some(words) => println!(rt; "{words}"),
         None => println!(rt; "unread"),
     }
 }
 
-// Prints what a table holds from place `at` on, 16 words to a line; the last is the one with the last
+// Writes what a table holds from place `at` on, 16 words to a line; the last is the one with the last
 // place that is lent.
 pub fn print_table<W: Word>(
+    out: &mut impl Write,
+    table: &[W],
+    at: usize,
+    lent: usize,
+) -> io::Result<()> {
+    let end = lent.min(table.len());
+    for from in (at..end).step_by(16) {
+        writeln!(out, "{}", shown(table, from))?;
+    }
+    Ok(())
+}
+
+// Prints it on standard output, each line in one write.
+pub fn println_table<W: Word>(
     rt: &impl Print,
     table: &[W],
     at: usize,

@@ -7,7 +7,7 @@ mod show;
 
 use asked_clusters::Cut;
 use asked_rows::Told;
-use replay::{Line, Replay, Words, print_answer, vec};
+use replay::{Line, Replay, Words, println_answer, vec};
 use std::io;
 use stored::Stored as Scene;
 use stored_rows::Stored;
@@ -48,11 +48,11 @@ impl Replay for Calls {
     }
 
     // Shows what the tables hold, or prints a call's answer.
-    fn print(&mut self, rt: &impl Print, line: &Line<'_>) -> io::Result<()> {
+    fn println(&mut self, rt: &impl Print, line: &Line<'_>) -> io::Result<()> {
         match line.name {
             b"show_clusters" => show::clusters(rt, &self.stored, line.given.padded()[0] as usize),
             b"show_rows" => show::rows(rt, &self.stored, line.given.padded()[0] as usize),
-            _ => print_answer(rt, self.answer(line)),
+            _ => println_answer(rt, self.answer(line)),
         }
     }
 }

@@ -6,7 +6,7 @@
 mod show;
 
 use asked_placement::Told;
-use replay::{Line, Replay, Words, print_answer, vec};
+use replay::{Line, Replay, Words, println_answer, vec};
 use std::io;
 use stored::Stored as Scene;
 use stored_placement::Stored;
@@ -44,10 +44,10 @@ impl Replay for Calls {
     }
 
     // Shows what the tables hold, or prints a call's answer.
-    fn print(&mut self, rt: &impl Print, line: &Line<'_>) -> io::Result<()> {
+    fn println(&mut self, rt: &impl Print, line: &Line<'_>) -> io::Result<()> {
         match line.name {
             b"show" => show::tables(rt, &self.stored, line),
-            _ => print_answer(rt, self.answer(line)),
+            _ => println_answer(rt, self.answer(line)),
         }
     }
 }

@@ -1,5 +1,5 @@
 // Reports of the file, and what they answer.
-use replay::{Words, counted, lent, lent_mut, print_answer, refusal_word};
+use replay::{Words, counted, lent, lent_mut, println_answer, refusal_word};
 use std::io;
 
 // Prints the report of the first so many bytes of the file, more than there are meaning all; or the
@@ -7,7 +7,7 @@ use std::io;
 pub fn room(rt: &impl Print, file: &[u8], length: usize, text: &mut [u8]) -> io::Result<()> {
     match report::room_report(lent(file, length), text) {
         Ok(end) => rt.write_all(lent(text, end)),
-        Err(refusal) => print_answer(rt, Some(refusal_word(refusal))),
+        Err(refusal) => println_answer(rt, Some(refusal_word(refusal))),
     }
 }
 

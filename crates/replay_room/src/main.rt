@@ -5,7 +5,7 @@
 
 mod ask;
 
-use replay::{Line, Replay, Words, print_answer};
+use replay::{Line, Replay, Words, println_answer};
 use std::io;
 
 // The file and the text of its report are zeros at first.
@@ -39,13 +39,13 @@ impl Replay for Reports {
     }
 
     // Prints a report, or an answer.
-    fn print(&mut self, rt: &impl Print, line: &Line<'_>) -> io::Result<()> {
+    fn println(&mut self, rt: &impl Print, line: &Line<'_>) -> io::Result<()> {
         match line.name {
             b"room" => {
                 let length = line.given.padded()[0] as usize;
                 ask::room(rt, &self.file, length, &mut self.report)
             }
-            _ => print_answer(rt, self.answer(line)),
+            _ => println_answer(rt, self.answer(line)),
         }
     }
 }
