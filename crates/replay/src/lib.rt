@@ -13,6 +13,8 @@ mod tests;
 mod words;
 
 pub use line::{Line, Lines};
-pub use replaying::{Replay, print_answer, print_table, println_answer, println_table, run};
+pub use replaying::{
+    Replay, print_answer, print_table, println_answer, println_table, run, run_lines,
+};
 pub use table::{Word, lent, lent_mut, part, put, put_at, shown, shown_at};
 pub use words::{Words, counted, full, refusal_word, refused, short, told, vec};

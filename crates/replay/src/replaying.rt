@@ -15,21 +15,45 @@ pub trait Replay {
     // The result words of the question that a line is; none where it is no question.
     fn answer(&mut self, line: &Line<'_>) -> Option<Words>;
 
-    // Writes the answer to a line that stores nothing to a writer of the caller's.
+    // Writes the answer to a line that stores nothing. What it writes is what `run` prints.
     fn print(&mut self, out: &mut impl Write, line: &Line<'_>) -> io::Result<()> {
         print_answer(out, self.answer(line))
     }
 
-    // Prints what a line that stores nothing asks for: its answer, unless a program shows more.
+    // Prints the answer to a line that stores nothing. What it prints is what `run_lines` prints.
     fn println(&mut self, rt: &impl Print, line: &Line<'_>) -> io::Result<()> {
         println_answer(rt, self.answer(line))
     }
 }
 
-// Stores or answers each line of standard input. A line whose words can't be read has none.
+// Stores or answers each line of standard input, and prints what `print` writes, as it is written.
+pub fn run(rt: &(impl Input + Print), replayed: &mut impl Replay) -> io::Result<()> {
+    run_lines(rt, &mut Written(replayed))
+}
+
+// What prints what its `print` writes.
+#[derive(Drop)]
+pub(crate) struct Written<'a, R>(pub(crate) &'a mut R);
+
+impl<R: Replay> Replay for Written<'_, R> {
+    fn store(&mut self, line: &Line<'_>) -> bool {
+        self.0.store(line)
+    }
+
+    fn answer(&mut self, line: &Line<'_>) -> Option<Words> {
+        self.0.answer(line)
+    }
+
+    fn println(&mut self, rt: &impl Print, line: &Line<'_>) -> io::Result<()> {
+        self.0.print(&mut io::writer(rt), line)
+    }
+}
+
+// Stores or answers each line of standard input, and prints by `println`. A line whose words can't be
+// read has none.
 // Kept: a text on the stack and a line written at a time, since the heap could fail, and whoever reads
 // has each answer as it is made.
-pub fn run(rt: &(impl Input + Print), replayed: &mut impl Replay) -> io::Result<()> {
+pub fn run_lines(rt: &(impl Input + Print), replayed: &mut impl Replay) -> io::Result<()> {
     let mut text = [0u8; MAX_TEXT];
     let n = input::read_full(rt, &mut text)?;
     for bytes in Lines(&text[..n]) {

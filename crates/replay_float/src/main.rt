@@ -9,7 +9,7 @@ use replay::{Line, Replay, Words};
 use std::io;
 
 fn main(rt: HostRuntime) -> io::Result<()> {
-    replay::run(&rt, &mut Operations)
+    replay::run_lines(&rt, &mut Operations)
 }
 
 // Operations keep nothing from line to line.

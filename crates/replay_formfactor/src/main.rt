@@ -15,7 +15,7 @@ use stored_rows::Stored;
 fn main(rt: HostRuntime) -> io::Result<()> {
     let scene = Scene::nothing();
     let stored = Stored::nothing();
-    replay::run(&rt, &mut Calls { scene, stored })
+    replay::run_lines(&rt, &mut Calls { scene, stored })
 }
 
 // Calls with the scene, and with what else is stored.

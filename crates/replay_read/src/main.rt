@@ -14,7 +14,7 @@ fn main(rt: HostRuntime) -> io::Result<()> {
         columns: Columns::marked(0),
         lengths: Lent::from([64; 16]),
     };
-    replay::run(&rt, &mut readings)
+    replay::run_lines(&rt, &mut readings)
 }
 
 // Readings of the file: what the columns hold, and how many places of each a reading is lent.

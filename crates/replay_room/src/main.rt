@@ -14,7 +14,7 @@ fn main(rt: HostRuntime) -> io::Result<()> {
         file: [0; 65600],
         report: [0; 131072],
     };
-    replay::run(&rt, &mut reports)
+    replay::run_lines(&rt, &mut reports)
 }
 
 // Reports of the file, written into a text.

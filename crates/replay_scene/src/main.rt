@@ -11,7 +11,7 @@ use stored::Stored;
 
 fn main(rt: HostRuntime) -> io::Result<()> {
     let scene = Stored::nothing();
-    replay::run(&rt, &mut Questions { scene })
+    replay::run_lines(&rt, &mut Questions { scene })
 }
 
 // Questions about the scene that is stored.

@@ -11,7 +11,7 @@ use stored_room::Stored;
 
 fn main(rt: HostRuntime) -> io::Result<()> {
     let stored = Stored::nothing();
-    replay::run(&rt, &mut Questions { stored })
+    replay::run_lines(&rt, &mut Questions { stored })
 }
 
 // Questions about what is stored.

@@ -8,7 +8,9 @@
 mod line;
 mod number;
 mod reading;
+#[cfg(test)]
+mod tests;
 
 pub use line::put;
 pub use number::{Numeral, decimal, hex};
-pub use reading::word;
+pub use reading::{leading_word, word};

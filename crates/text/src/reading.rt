@@ -16,6 +16,13 @@ pub fn word(s: &[u8], at: usize) -> Option<u32>
     Some(n)
 }
 
+// The word that the first eight bytes of s spell, as `word` reads it.
+pub fn leading_word(s: &[u8]) -> Option<u32>
+    ensures { result ≡ word_at s.now 0 }
+{
+    word(s, 0)
+}
+
 // The value of an upper-case hexadecimal digit, none for any other byte.
 fn digit(b: u8) -> Option<u32>
     ensures { result ≡ digit_of b }
