@@ -1,7 +1,7 @@
 // Standard input replayed line by line.
 use crate::{Line, Lines, Word, Words, shown};
 use std::io;
-use std::io::Write;
+use std::io::{BufWriter, Read, Write};
 
 // Of a longer input no more bytes are read.
 const MAX_TEXT: usize = 524288;
@@ -26,31 +26,25 @@ pub trait Replay {
     }
 }
 
-// Stores or answers each line of standard input, and prints what `print` writes, as it is written.
-pub fn run(rt: &(impl Input + Print), replayed: &mut impl Replay) -> io::Result<()> {
-    run_lines(rt, &mut Written(replayed))
+// Stores or answers each line of standard input, and prints what `print` writes, gathered on the heap. A
+// line whose words can't be read has none.
+pub fn run(rt: &(impl Input + Print + Alloc), replayed: &mut impl Replay) -> io::Result<()> {
+    let mut text = Vec::new(rt.alloc());
+    rt.reader().take(MAX_TEXT as u64).read_to_end(&mut text)?;
+    let mut out = BufWriter::new(rt.alloc(), io::writer(rt))?;
+    for bytes in Lines(&text) {
+        let line = match Line::of(bytes) {
+            Some(line) => line,
+            None => Line::unread(bytes),
+        };
+        if !replayed.store(&line) {
+            replayed.print(&mut out, &line)?;
+        }
+    }
+    out.flush()
 }
 
-// What prints what its `print` writes.
-#[derive(Drop)]
-pub(crate) struct Written<'a, R>(pub(crate) &'a mut R);
-
-impl<R: Replay> Replay for Written<'_, R> {
-    fn store(&mut self, line: &Line<'_>) -> bool {
-        self.0.store(line)
-    }
-
-    fn answer(&mut self, line: &Line<'_>) -> Option<Words> {
-        self.0.answer(line)
-    }
-
-    fn println(&mut self, rt: &impl Print, line: &Line<'_>) -> io::Result<()> {
-        self.0.print(&mut io::writer(rt), line)
-    }
-}
-
-// Stores or answers each line of standard input, and prints by `println`. A line whose words can't be
-// read has none.
+// The same with no heap: what `println` prints is printed, as it is made.
 // Kept: a text on the stack and a line written at a time, since the heap could fail, and whoever reads
 // has each answer as it is made.
 pub fn run_lines(rt: &(impl Input + Print), replayed: &mut impl Replay) -> io::Result<()> {

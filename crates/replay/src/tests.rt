@@ -1,17 +1,34 @@
 // What is written of answers and of tables, into a writer that a caller brings.
 use super::*;
-use std::io;
+use std::alloc::Allocator;
+use std::cell::Cell;
+use std::io::{BufRead, Write};
+use std::{fmt, io};
 
-// Stores no line, and answers one that has a name by its words.
+// Answers a line that has a name by its words, and counts what it is asked.
 #[derive(Drop)]
-struct Echo;
+struct Echo {
+    stores: usize,
+    answers: usize,
+}
+
+impl Echo {
+    fn new() -> Echo {
+        Echo {
+            stores: 0,
+            answers: 0,
+        }
+    }
+}
 
 impl Replay for Echo {
     fn store(&mut self, _line: &Line<'_>) -> bool {
+        self.stores = self.stores.saturating_add(1);
         false
     }
 
     fn answer(&mut self, line: &Line<'_>) -> Option<Words> {
+        self.answers = self.answers.saturating_add(1);
         if line.name.is_empty() {
             None
         } else {
@@ -49,7 +66,7 @@ fn tables_are_written(rt: HostRuntime) -> io::Result<()> {
 #[test]
 fn lines_are_answered(rt: HostRuntime) -> io::Result<()> {
     let mut out = Vec::new(rt.alloc());
-    let mut echo = Echo;
+    let mut echo = Echo::new();
     let given = Words::none().with(42);
     echo.print(
         &mut out,
@@ -60,6 +77,7 @@ fn lines_are_answered(rt: HostRuntime) -> io::Result<()> {
     )?;
     echo.print(&mut out, &Line { name: b"", given })?;
     assert_eq!(rt; out.as_slice(), b"0000002A\nunread\n".as_slice());
+    assert_eq!(rt; (echo.stores, echo.answers), (0, 2));
     Ok(())
 }
 
@@ -75,40 +93,122 @@ fn full_writers_are_told(rt: HostRuntime) {
         name: b"say",
         given: words,
     };
-    assert!(rt; Echo.print(&mut places.as_mut_slice(), &line).is_err());
+    assert!(rt;
+        Echo::new()
+            .print(&mut places.as_mut_slice(), &line)
+            .is_err()
+    );
 }
 
-// Writes a line of its own, and counts how often it is asked to.
+// Stores what has the name `set`, and has a `print` of its own.
 #[derive(Drop)]
 struct Counting {
-    prints: u8,
+    stored: usize,
+    prints: usize,
 }
 
 impl Replay for Counting {
-    fn store(&mut self, _line: &Line<'_>) -> bool {
-        false
+    fn store(&mut self, line: &Line<'_>) -> bool {
+        let is_set = line.name == b"set".as_slice();
+        self.stored = self.stored.saturating_add(is_set as usize);
+        is_set
     }
 
     fn answer(&mut self, _line: &Line<'_>) -> Option<Words> {
         None
     }
 
-    fn print(&mut self, out: &mut impl io::Write, _line: &Line<'_>) -> io::Result<()> {
+    fn print(&mut self, out: &mut impl Write, line: &Line<'_>) -> io::Result<()> {
         self.prints = self.prints.saturating_add(1);
-        out.write_all(b"counted\n")
+        out.write_all(line.name)?;
+        out.write_all(b" counted\n")
     }
 }
 
-// What has a `print` of its own is printed by it; of no input nothing is printed.
+// What stands for standard input, and places for what is printed.
+#[derive(Drop)]
+struct Desk<'a> {
+    text: &'a [u8],
+    printed: Cell<[u8; 64]>,
+    count: Cell<usize>,
+}
+
+impl<'a> Desk<'a> {
+    fn of(text: &'a [u8]) -> Desk<'a> {
+        Desk {
+            text,
+            printed: Cell::new([0; 64]),
+            count: Cell::new(0),
+        }
+    }
+}
+
+impl<'a> Input for Desk<'a> {
+    type Reader = &'a [u8];
+
+    fn read_line<A: Allocator + Clone>(&self, buf: &mut String<A>) -> io::Result<usize> {
+        self.reader().read_line(buf)
+    }
+
+    fn lines<A: Allocator>(&self, alloc: A) -> io::Lines<&'a [u8], A> {
+        self.reader().lines(alloc)
+    }
+
+    fn reader(&self) -> &'a [u8] {
+        self.text
+    }
+}
+
+impl Print for Desk<'_> {
+    fn print<D: fmt::Display + Drop>(&self, _value: D) -> io::Result<()> {
+        self.write_all(b"by print")
+    }
+
+    fn println<D: fmt::Display + Drop>(&self, _value: D) -> io::Result<()> {
+        self.write_all(b"by println\n")
+    }
+
+    fn write_all(&self, bytes: &[u8]) -> io::Result<()> {
+        let mut printed = self.printed.get();
+        let at = self.count.get();
+        if bytes.len() > printed.len().saturating_sub(at) {
+            return Err(io::Error::from(io::ErrorKind::StorageFull));
+        }
+        text::put(&mut printed, at, bytes);
+        self.printed.set(printed);
+        self.count.set(at.saturating_add(bytes.len()));
+        Ok(())
+    }
+}
+
+// What has a `print` of its own is printed by it, and a line whose words can't be read is stored too.
 #[test]
 fn own_lines_are_printed(rt: HostRuntime) -> io::Result<()> {
-    let mut counting = Counting { prints: 0 };
-    let line = Line {
-        name: b"say",
-        given: Words::none(),
+    let desk = Desk::of(b"say 00000001\nset 00000001\nset x\nsay x\n");
+    let mut counting = Counting {
+        stored: 0,
+        prints: 0,
     };
-    replaying::Written(&mut counting).println(&rt, &line)?;
-    run(&rt, &mut counting)?;
-    assert_eq!(rt; counting.prints, 1);
+    run(&(&desk, rt.alloc()), &mut counting)?;
+    assert_eq!(rt; (counting.stored, counting.prints), (2, 2));
+    assert_eq!(rt; desk.count.get(), 24);
+    assert!(rt;
+        desk.printed
+            .get()
+            .starts_with(b"say counted\nsay counted\n")
+    );
     Ok(())
+}
+
+// Where there is no place for what is printed, that is told.
+#[test]
+fn lost_lines_are_told(rt: HostRuntime) {
+    let desk = Desk::of(
+        b"a 00000001\nb 00000001\nc 00000001\nd 00000001\ne 00000001\nf 00000001\ng 00000001\n",
+    );
+    let mut counting = Counting {
+        stored: 0,
+        prints: 0,
+    };
+    assert!(rt; run(&(&desk, rt.alloc()), &mut counting).is_err());
 }
