@@ -109,9 +109,11 @@ struct Counting {
 
 impl Replay for Counting {
     fn store(&mut self, line: &Line<'_>) -> bool {
-        let is_set = line.name == b"set".as_slice();
-        self.stored = self.stored.saturating_add(is_set as usize);
-        is_set
+        match line.name {
+            b"set" => self.stored = self.stored.saturating_add(1),
+            _ => return false,
+        }
+        true
     }
 
     fn answer(&mut self, _line: &Line<'_>) -> Option<Words> {
@@ -125,17 +127,17 @@ impl Replay for Counting {
     }
 }
 
-// What stands for standard input, and places for what is printed.
+// A runtime with a text for its standard input, and places for what is printed.
 #[derive(Drop)]
-struct Desk<'a> {
+struct TestRuntime<'a> {
     text: &'a [u8],
     printed: Cell<[u8; 64]>,
     count: Cell<usize>,
 }
 
-impl<'a> Desk<'a> {
-    fn of(text: &'a [u8]) -> Desk<'a> {
-        Desk {
+impl<'a> TestRuntime<'a> {
+    fn of(text: &'a [u8]) -> TestRuntime<'a> {
+        TestRuntime {
             text,
             printed: Cell::new([0; 64]),
             count: Cell::new(0),
@@ -143,7 +145,7 @@ impl<'a> Desk<'a> {
     }
 }
 
-impl<'a> Input for Desk<'a> {
+impl<'a> Input for TestRuntime<'a> {
     type Reader = &'a [u8];
 
     fn read_line<A: Allocator + Clone>(&self, buf: &mut String<A>) -> io::Result<usize> {
@@ -159,7 +161,7 @@ impl<'a> Input for Desk<'a> {
     }
 }
 
-impl Print for Desk<'_> {
+impl Print for TestRuntime<'_> {
     fn print<D: fmt::Display + Drop>(&self, _value: D) -> io::Result<()> {
         self.write_all(b"by print")
     }
@@ -184,16 +186,17 @@ impl Print for Desk<'_> {
 // What has a `print` of its own is printed by it, and a line whose words can't be read is stored too.
 #[test]
 fn own_lines_are_printed(rt: HostRuntime) -> io::Result<()> {
-    let desk = Desk::of(b"say 00000001\nset 00000001\nset x\nsay x\n");
+    let runtime = TestRuntime::of(b"say 00000001\nset 00000001\nset x\nsay x\n");
     let mut counting = Counting {
         stored: 0,
         prints: 0,
     };
-    run(&(&desk, rt.alloc()), &mut counting)?;
+    run(&(&runtime, rt.alloc()), &mut counting)?;
     assert_eq!(rt; (counting.stored, counting.prints), (2, 2));
-    assert_eq!(rt; desk.count.get(), 24);
+    assert_eq!(rt; runtime.count.get(), 24);
     assert!(rt;
-        desk.printed
+        runtime
+            .printed
             .get()
             .starts_with(b"say counted\nsay counted\n")
     );
@@ -203,12 +206,12 @@ fn own_lines_are_printed(rt: HostRuntime) -> io::Result<()> {
 // Where there is no place for what is printed, that is told.
 #[test]
 fn lost_lines_are_told(rt: HostRuntime) {
-    let desk = Desk::of(
+    let runtime = TestRuntime::of(
         b"a 00000001\nb 00000001\nc 00000001\nd 00000001\ne 00000001\nf 00000001\ng 00000001\n",
     );
     let mut counting = Counting {
         stored: 0,
         prints: 0,
     };
-    assert!(rt; run(&(&desk, rt.alloc()), &mut counting).is_err());
+    assert!(rt; run(&(&runtime, rt.alloc()), &mut counting).is_err());
 }
