@@ -46,8 +46,8 @@ fn answers_are_written(rt: HostRuntime) -> io::Result<()> {
     Ok(())
 }
 
-// Of a table of 18 places, the last 17: a full line and one of a single word. Nothing of places that are
-// not lent, or that are lent and not there.
+// Of a table of 18 places, the last 17: a full line and one of a single word. No line where no place is
+// lent, or none that is there; a whole line where its first place is lent.
 #[test]
 fn tables_are_written(rt: HostRuntime) -> io::Result<()> {
     let mut out = Vec::new(rt.alloc());
@@ -100,7 +100,7 @@ fn full_writers_are_told(rt: HostRuntime) {
     );
 }
 
-// Stores what has the name `set`, and has a `print` of its own.
+// Stores what has the name `set`, and has a `print` of its own, which fails of a line without a name.
 #[derive(Drop)]
 struct Counting {
     stored: usize,
@@ -122,6 +122,9 @@ impl Replay for Counting {
 
     fn print(&mut self, out: &mut impl Write, line: &Line<'_>) -> io::Result<()> {
         self.prints = self.prints.saturating_add(1);
+        if line.name.is_empty() {
+            return Err(io::Error::from(io::ErrorKind::InvalidInput));
+        }
         out.write_all(line.name)?;
         out.write_all(b" counted\n")
     }
@@ -203,7 +206,7 @@ fn own_lines_are_printed(rt: HostRuntime) -> io::Result<()> {
     Ok(())
 }
 
-// Where there is no place for what is printed, that is told.
+// Where there is no place for what is printed, or `print` fails, that is told.
 #[test]
 fn lost_lines_are_told(rt: HostRuntime) {
     let runtime = TestRuntime::of(
@@ -213,5 +216,7 @@ fn lost_lines_are_told(rt: HostRuntime) {
         stored: 0,
         prints: 0,
     };
+    assert!(rt; run(&(&runtime, rt.alloc()), &mut counting).is_err());
+    let runtime = TestRuntime::of(b" 00000001\n");
     assert!(rt; run(&(&runtime, rt.alloc()), &mut counting).is_err());
 }
