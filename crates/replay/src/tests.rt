@@ -1,4 +1,4 @@
-// What is written of answers and of tables, into a writer that a caller brings.
+// What is written of answers and of tables, into a writer that a caller brings, and what `run` prints.
 use super::*;
 use std::alloc::Allocator;
 use std::cell::Cell;
